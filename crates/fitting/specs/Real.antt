@@ -1,0 +1,267 @@
+-- No empty talk: closed books, models and arrangements that have and have not what the theorems speak of, each by computing.
+-- A book with two complete models, of which an arrangement that keeps it fits the one and not the other; an arrangement that
+-- does not keep it; and books all of whose branches fail, one of them only by a merge that another merge brings about.
+use mathlib.Core.Path.{_≡_, refl, sym, ap, _∙_}
+use Prim.Native.Nat.{ℕ, zero, suc, _<_}
+use native.Mathlib.Omega.{arith}
+use mathlib.Core.Bool.{Bool, true, false, not}
+use mathlib.Core.Logic.{_⊎_, inl, inr}
+use mathlib.Core.Option.{none, some}
+use mathlib.Core.List.{List, [], _∷_, _++_, map}
+use lib.Dec.{T, eqb}
+use Rattle.base.specs.Branch.{if, caseO, caseL, three, order}
+use Rattle.base.specs.Lists.{Some, mem, without, firsts, keep, firstOf, from, entries, flat}
+use Rattle.base.specs.BranchLaws.{if-elim}
+use Rattle.rules.specs.Book.{Term, var, con, app, nil, cons, Literal, fact, same, Disjunct, Sequent}
+use Rattle.rules.specs.Sheet.{key, Fact, rel, Entry, Model, Sheet, find, holds, insertKey, insertFact, domain, known, empty, blank, limits}
+use Rattle.rules.specs.Look.{originMeaning, bodyMeanings, headMeanings, lookMeaning, look, observed}
+use Rattle.rules.specs.Fire.{choices, bodyObserved, disjunctObserved, headObserved, fires, numbered, firing, linear, visits, placeAfter}
+use Rattle.rules.specs.Bound.{unbounded, admits, depthOver, depthAt, depthMeaning, depth, termsOf, admitted}
+use Rattle.rules.specs.Merge.{rename, renameEntry, renameFact, file, refile, refact, mergeDepths, mergeInto, mergeAll, lowerBy, sum, lower, lowered, merge}
+use Rattle.rules.specs.Child.{add, put, putMeaning, enter, tooBig, recorded, tell, tells, child}
+use Rattle.rules.specs.Pool.{State, schedulerOf, strategyOf, numbers, sheetAt, sheetsAt, used, free, opened, changed, freed}
+use Rattle.rules.specs.Step.{placed, stored, openSlots, cutSlots, pushed, schedule, refuse, done, withPlaced, withoutBase, withChildren, stepOn, step, run}
+use Rattle.rules.specs.Arrangement.{Arrangement, eval, isTrue, originValue, bodyTrue, disjunctTrue, headTrue, Keeps, KeepsRule, Fits}
+use Rattle.laws.specs.Firing.{visits-within}
+use Rattle.fitting.specs.Fire.{Held, held-fits, fired-held}
+
+-- ---- runs
+
+-- How a run of a new pool ends: the stop, how many steps it made, and the models in each list.
+pub record Ended : Type 0 where
+  pub stop : ℕ
+  pub steps : ℕ
+  pub waiting : List Model
+  pub complete : List Model
+  pub bounded : List Model
+
+unfoldable pub models : State → List ℕ → List Model
+models s is = map (λ (x : Sheet). x .model) (sheetsAt s is)
+
+-- Its `unfolding` line names every function of a run: what says `unfolding ended` computes.
+unfoldable pub ended : List Sequent → Ended
+unfolding if caseO caseL three order mem without firsts keep firstOf from entries flat
+    find holds insertKey insertFact domain known empty blank limits originMeaning bodyMeanings headMeanings lookMeaning look observed
+    choices bodyObserved disjunctObserved headObserved fires numbered firing visits placeAfter
+    admits depthOver depthAt depthMeaning depth termsOf admitted
+    rename renameEntry renameFact file refile refact mergeDepths mergeInto mergeAll lowerBy sum lower lowered merge
+    add put putMeaning enter tooBig recorded tell tells child
+    schedulerOf strategyOf numbers sheetAt sheetsAt used free opened changed freed
+    placed stored openSlots cutSlots pushed schedule refuse done withPlaced withoutBase withChildren stepOn step run models
+ended rs =
+    let r = run limits 1000 unbounded rs (opened 0 0 12) in
+    let s = r .state in
+    record { stop = r .stop; steps = r .steps; waiting = models s (s .waiting); complete = models s (s .complete); bounded = models s (s .bounded) }
+
+-- After so many steps nothing waits, nothing was cut, and these models are complete.
+abbrev pub leaves : ℕ → List Model → Ended
+leaves n ms = record { stop = 14; steps = n; waiting = []; complete = ms; bounded = [] }
+
+-- ---- words
+
+abbrev P : Term → Literal
+P t = fact 0 (cons t nil)
+
+abbrev Q : Term → Literal
+Q t = fact 1 (cons t nil)
+
+abbrev a : Term
+a = con 0
+
+abbrev b : Term
+b = con 1
+
+abbrev f : Term → Term
+f t = app 0 (cons t nil)
+
+abbrev plain : List Literal → Disjunct
+plain ls = record { origins = []; literals = ls }
+
+-- An existential that is function witness 0 at variable 0.
+abbrev some-y : List Literal → Disjunct
+some-y ls = record { origins = record { kind = 1; witness = 0; args = 0 ∷ [] } ∷ []; literals = ls }
+
+abbrev rule : ℕ → List Literal → List Disjunct → Sequent
+rule v bs ds = record { free = v; body = bs; head = ds }
+
+abbrev model : ℕ → List Entry → List Fact → List ℕ → Model
+model n ks fs ds = record { created = n; keys = ks; facts = fs; depths = ds }
+
+abbrev a↦ : ℕ → Entry
+a↦ v = (key 1 0 [], v)
+
+abbrev b↦ : ℕ → Entry
+b↦ v = (key 1 1 [], v)
+
+abbrev f↦ : ℕ → ℕ → Entry
+f↦ x v = (key 2 0 (x ∷ []), v)
+
+abbrev w↦ : ℕ → ℕ → Entry
+w↦ x v = (key 4 0 (x ∷ []), v)
+
+-- ---- a book and its two complete models
+
+-- P(x) gives some y Q(f(y)), or f(x) = x.
+abbrev pub splits : Sequent
+splits = rule 1 (P (var 0) ∷ []) (some-y (Q (f (var 1)) ∷ []) ∷ plain (same (f (var 0)) (var 0) ∷ []) ∷ [])
+
+-- [] gives P(a); and that.
+abbrev pub book : List Sequent
+book = rule 0 [] (plain (P a ∷ []) ∷ []) ∷ splits ∷ []
+
+abbrev pub split : Model
+split = model 3 (a↦ 0 ∷ f↦ 1 2 ∷ w↦ 0 1 ∷ []) (rel 0 (0 ∷ []) ∷ rel 1 (2 ∷ []) ∷ []) (0 ∷ 1 ∷ 2 ∷ [])
+
+abbrev pub fixed : Model
+fixed = model 2 (a↦ 0 ∷ f↦ 0 0 ∷ []) (rel 0 (0 ∷ []) ∷ []) (0 ∷ 0 ∷ [])
+
+pub book-ends : ended book ≡ leaves 4 (split ∷ fixed ∷ [])
+unfolding ended
+book-ends = refl
+
+pub split-complete : firing split (visits linear 0 book) ≡ none
+unfolding ended
+split-complete = refl
+
+pub fixed-complete : firing fixed (visits linear 0 book) ≡ none
+unfolding ended
+fixed-complete = refl
+
+-- The second rule has something to keep: its body is observed.
+pub split-body : T (bodyObserved split splits (0 ∷ []))
+unfolding ended
+split-body = tt
+
+-- ---- arrangements
+
+abbrev isZero : List ℕ → Bool
+isZero [] = false
+isZero (zero ∷ xs) = true
+isZero (suc n ∷ xs) = false
+
+abbrev other : List ℕ → ℕ
+other [] = 0
+other (zero ∷ xs) = 1
+other (suc n ∷ xs) = 0
+
+pub other-low : (xs : List ℕ) → other xs < 2
+other-low [] = omega arith
+other-low (zero ∷ xs) = omega arith
+other-low (suc n ∷ xs) = omega arith
+
+-- Things 0 and 1. f exchanges them, all else is 0. P is true of 0 alone, Q as is told.
+abbrev pub arranged : (List ℕ → Bool) → Arrangement
+arranged q = record {
+  thing = λ n. n < 2;
+  one = 0;
+  one-is = omega arith;
+  value = λ kind symbol xs. if (eqb kind 2) (λ _. other xs) (λ _. 0);
+  closed = λ kind symbol xs _. if-elim (λ v. v < 2) _ _ _ (λ _. other-low xs) (λ _. omega arith);
+  truth = λ r xs. if (eqb r 0) (λ _. isZero xs) (λ _. q xs);
+}
+
+abbrev pub exchange : Arrangement
+exchange = arranged (λ xs. not (isZero xs))
+
+pub exchange-false : T (not (exchange .truth 0 (1 ∷ [])))
+unfolding if
+exchange-false = tt
+
+splits-kept : KeepsRule exchange splits
+unfolding if bodyTrue headTrue disjunctTrue isTrue eval originValue entries
+splits-kept [] l ts t = absurd (omega arith)
+splits-kept (zero ∷ []) l ts t = tt
+splits-kept (suc n ∷ []) l ts t = absurd t
+splits-kept (x ∷ y ∷ c) l ts t = absurd (omega arith)
+
+pub exchange-keeps : Keeps exchange book
+unfolding if bodyTrue headTrue disjunctTrue isTrue eval
+exchange-keeps = (λ c l ts t. tt, (splits-kept, tt))
+
+-- The three elements of `split` are given two things.
+pub exchange-fits : Fits exchange split
+unfolding if
+exchange-fits = record {
+  give = λ e. if (eqb e 2) (λ _. 1) (λ _. 0);
+  things = λ e _. if-elim (λ v. v < 2) (eqb e 2) (λ _. 1) (λ _. 0) (λ _. omega arith) (λ _. omega arith);
+  keys = (refl, (refl, (refl, tt)));
+  facts = (tt, (tt, tt));
+}
+
+pub exchange-not : Fits exchange fixed → ⊥
+unfolding if
+exchange-not g =
+    let e = g .keys .0 in
+    let p : _≡_ {A = ℕ} 1 0 = ap (λ x. other (x ∷ [])) e ∙ g .keys .1 .0 ∙ sym e in
+    omega arith
+
+-- Without a true Q the second rule is broken.
+pub false-breaks : Keeps (arranged (λ _. false)) book → ⊥
+unfolding if bodyTrue headTrue disjunctTrue isTrue eval originValue entries
+false-breaks k = k .1 .0 (0 ∷ []) refl (omega arith, tt) tt
+
+-- ---- a firing
+
+-- What the first step leaves.
+abbrev pub seed : Model
+seed = model 1 (a↦ 0 ∷ []) (rel 0 (0 ∷ []) ∷ []) (0 ∷ [])
+
+pub seed-held : Held exchange seed
+unfolding if
+seed-held = record {
+  give = λ _. 0;
+  fit = record {
+    things = λ _. omega arith;
+    keys = (record { stands = refl; low = tt; valueLow = omega arith }, tt);
+    facts = (record { stands = tt; low = (omega arith, tt) }, tt);
+  };
+}
+
+-- There the second rule fires, its children are the two complete models, and the theorem's child is the first.
+pub seed-fires : firing seed (visits linear 0 book) ≡ some (record { index = 1; sequent = splits; choice = 0 ∷ [] })
+unfolding ended
+seed-fires = refl
+
+pub seed-children : map (λ (d : Disjunct). child limits unbounded seed (0 ∷ []) d .model) (splits .head) ≡ split ∷ fixed ∷ []
+unfolding ended
+seed-children = refl
+
+pub split-held : Held exchange split
+unfolding ended
+split-held = pick (fired-held exchange book exchange-keeps limits unbounded seed (visits linear 0 book) (visits-within linear 0 book) seed-held
+    (record { index = 1; sequent = splits; choice = 0 ∷ [] }) seed-fires)
+  where
+    pick : Held exchange split ⊎ Some (λ (m : Model). Held exchange m) (fixed ∷ []) → Held exchange split
+    pick (inl g) = g
+    pick (inr (inl g)) = absurd (exchange-not (held-fits exchange fixed g))
+    pick (inr (inr g)) = absurd (g .lower)
+
+-- ---- books that fail
+
+-- [] gives P(a) or Q(a); each of the two is refuted.
+pub all-fail : ended (rule 0 [] (plain (P a ∷ []) ∷ plain (Q a ∷ []) ∷ []) ∷ rule 1 (P (var 0) ∷ []) [] ∷ rule 1 (Q (var 0) ∷ []) [] ∷ []) ≡ leaves 3 []
+unfolding ended
+all-fail = refl
+
+-- [] gives P(f(a)), Q(f(b)); P(x), Q(x) is refuted. That has a model, in which f(a) and f(b) are two elements.
+abbrev pub apart : List Sequent
+apart = rule 0 [] (plain (P (f a) ∷ Q (f b) ∷ []) ∷ []) ∷ rule 1 (P (var 0) ∷ Q (var 0) ∷ []) [] ∷ []
+
+abbrev pub two : Model
+two = model 4 (a↦ 0 ∷ b↦ 2 ∷ f↦ 0 1 ∷ f↦ 2 3 ∷ []) (rel 0 (1 ∷ []) ∷ rel 1 (3 ∷ []) ∷ []) (0 ∷ 1 ∷ 0 ∷ 1 ∷ [])
+
+pub apart-ends : ended apart ≡ leaves 2 (two ∷ [])
+unfolding ended
+apart-ends = refl
+
+-- With [] gives a = b behind these, they become one because a and b do, and then that one is refuted.
+abbrev pub joined : Disjunct
+joined = plain (same a b ∷ [])
+
+pub two-merged : child limits unbounded two [] joined .model ≡ model 4 (a↦ 0 ∷ b↦ 0 ∷ f↦ 0 1 ∷ []) (rel 0 (1 ∷ []) ∷ rel 1 (1 ∷ []) ∷ []) (0 ∷ 1 ∷ 0 ∷ 0 ∷ [])
+unfolding ended
+two-merged = refl
+
+pub merged-fails : ended (apart ++ (rule 0 [] (joined ∷ []) ∷ [])) ≡ leaves 3 []
+unfolding ended
+merged-fails = refl

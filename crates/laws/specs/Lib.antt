@@ -1,0 +1,3 @@
+-- Laws of the definitions of `rules` that more than one theorem needs.
+pub mod Tables
+pub mod Firing

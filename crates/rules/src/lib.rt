@@ -1,0 +1,1 @@
+// rules: document 01 as definitions. It has no code: see specs/.
