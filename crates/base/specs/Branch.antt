@@ -1,5 +1,5 @@
 -- Branching that computes only the branch that is taken: on a Boolean, an option, a list, an order.
--- Each is shut and has one law (in BranchLaws): a proof goes by that law and never opens it.
+-- Each is shut and has its laws in BranchLaws: a proof goes by those, and only a computed example opens it.
 use Prim.Native.Nat.{ℕ, Ordering, Ordering·lt, Ordering·eq, Ordering·gt, compare}
 use mathlib.Core.Bool.{Bool, true, false}
 use mathlib.Core.Option.{Option, none, some}

@@ -11,14 +11,14 @@ use lib.ListN.{length, getD, set, length-set}
 use lib.Seq.{getD-set-same, getD-set-other}
 use lib.Dec.{T}
 use Rattle.base.specs.Lists.{All, Some}
-use Rattle.base.specs.ListLaws.{all-all, all-both, all-map}
+use Rattle.base.specs.ListLaws.{all-all, all-both, all-map, all-unmap, some-all, some-elim}
 use Rattle.rules.specs.Book.{Book}
 use Rattle.rules.specs.Sheet.{Model, Sheet, blank, Limits}
 use Rattle.rules.specs.Fire.{places}
 use Rattle.rules.specs.Pool.{State, schedulers, strategies, strategyOf, numbers, sheetAt, used, changed, freed, schedulerOf}
 use Rattle.rules.specs.Sound.{soundSheet}
 use Rattle.rules.specs.Step.{Placed, stored, openSlots, cutSlots, schedule, withPlaced, done}
-use Rattle.pools.specs.Count.{hit, cnt, hit-elim, hit-self, hit-other, cnt-append, cnt-schedule, cnt-in, in-cnt, all-cnt}
+use Rattle.pools.specs.Count.{hit, cnt, hit-elim, hit-self, hit-other, cnt-append, cnt-schedule, cnt-all, all-cnt}
 use Rattle.pools.specs.Slots.{slotsOf, stored-length, stored-other, stored-new, open-and-cut}
 use Rattle.pools.specs.Tidy.{Listed, placesOf, Tidy}
 
@@ -114,6 +114,10 @@ module _ (lim : Limits) (b : Book) (s : State) (new : List Placed) (g : Tidy lim
   abbrev t : State
   t = after s new
 
+  -- A slot of a new sheet was not listed.
+  apart : (j : ℕ) → 1 ≤ cnt j (slotsOf new) → cnt j (used s) ≡ 0
+  apart j = all-cnt (λ i. cnt i (used s) ≡ 0) (slotsOf new) (all-map (λ (x : Placed). (cnt (x .slot) (used s) ≡ 0) × (x .slot < length (s .slots))) (λ i. cnt i (used s) ≡ 0) (λ (x : Placed). x .slot) (λ x q. q .0) new (n .free)) j
+
   here : All (λ (x : Placed). sheetAt t (x .slot) ≡ x .sheet) new
   here = placed-new s new (n .once) (all-all (λ (x : Placed). (cnt (x .slot) (used s) ≡ 0) × (x .slot < length (s .slots))) (λ (x : Placed). x .slot < length (s .slots)) (λ x q. q .1) new (n .free))
 
@@ -126,6 +130,22 @@ module _ (lim : Limits) (b : Book) (s : State) (new : List Placed) (g : Tidy lim
           (all-map (λ (x : Placed). P (x .slot) (sheetAt t (x .slot))) (λ i. P i (sheetAt t i)) (λ (x : Placed). x .slot) (λ x p. p) new
           (all-both (λ (x : Placed). sheetAt t (x .slot) ≡ x .sheet) (λ (x : Placed). P (x .slot) (x .sheet)) (λ (x : Placed). P (x .slot) (sheetAt t (x .slot))) (λ x e p. subst (P (x .slot)) (sym e) p) new here a)) j m
       go (no m) = let c = placed-counts s new j in subst (P j) (sym (placed-other s new j (omega arith))) (old j (omega arith))
+
+  -- A listed slot stays listed, and its sheet stays.
+  pub placed-old : (j : ℕ) → Listed s j → Listed t j × (sheetAt t j ≡ sheetAt s j)
+  placed-old j l = go (decLe 1 (cnt j (slotsOf new)))
+    where
+      go : Dec (1 ≤ cnt j (slotsOf new)) → Listed t j × (sheetAt t j ≡ sheetAt s j)
+      go (yes m) = let z = apart j m in absurd (omega arith)
+      go (no m) = let c = placed-counts s new j in (omega arith, placed-other s new j (omega arith))
+
+  -- What some new sheet has, some listed slot has.
+  pub placed-has : (P : Sheet → Type 0) → Some (λ (x : Placed). P (x .sheet)) new → (j : ℕ) × Listed t j × P (sheetAt t j)
+  placed-has P q = some-elim (λ (x : Placed). (P (x .sheet) × (sheetAt t (x .slot) ≡ x .sheet)) × (1 ≤ cnt (x .slot) (slotsOf new))) ((j : ℕ) × Listed t j × P (sheetAt t j))
+      (λ x u. (x .slot, (let c = placed-counts s new (x .slot) in let m = u .1 in omega arith), subst P (sym (u .0 .1)) (u .0 .0))) new
+      (some-all (λ (x : Placed). P (x .sheet) × (sheetAt t (x .slot) ≡ x .sheet)) (λ (x : Placed). 1 ≤ cnt (x .slot) (slotsOf new)) new
+      (some-all (λ (x : Placed). P (x .sheet)) (λ (x : Placed). sheetAt t (x .slot) ≡ x .sheet) new q here)
+      (all-unmap (λ j. 1 ≤ cnt j (slotsOf new)) (λ (x : Placed). x .slot) new (cnt-all (λ j. 1 ≤ cnt j (slotsOf new)) (slotsOf new) (λ j m. m))))
 
   size : length (t .slots) ≡ length (s .slots)
   unfolding withPlaced done changed
@@ -159,10 +179,6 @@ module _ (lim : Limits) (b : Book) (s : State) (new : List Placed) (g : Tidy lim
         (each (λ _ x. T (soundSheet lim (b .names) (placesOf b s) x)) (g .sheets) (n .sound) j l);
   }
     where
-      -- a slot of a new sheet was not listed
-      apart : (j : ℕ) → (1 ≤ cnt j (slotsOf new) → cnt j (used s) ≡ 0)
-      apart j = all-cnt (λ i. cnt i (used s) ≡ 0) (slotsOf new) (all-map (λ (x : Placed). (cnt (x .slot) (used s) ≡ 0) × (x .slot < length (s .slots))) (λ i. cnt i (used s) ≡ 0) (λ (x : Placed). x .slot) (λ x q. q .0) new (n .free)) j
-
       old-new : (i : ℕ) → Listed s i → All (λ (y : Placed). sheetAt s i .number ≡ y .sheet .number → i ≡ y .slot) new
       old-new i li = all-all (λ (y : Placed). (s .next ≤ y .sheet .number) × (y .sheet .number < s .next + length new)) (λ (y : Placed). sheetAt s i .number ≡ y .sheet .number → i ≡ y .slot)
           (λ y q e. let z = g .low i li in let w = q .0 in absurd (omega arith)) new (n .numbered)

@@ -8,7 +8,7 @@ use mathlib.Core.Bool.{Bool, true, false, not, _&&_}
 use mathlib.Core.Logic.{_⊎_, inl, inr, Lift}
 use mathlib.Core.Option.{Option, none, some, Option·none-ne-some}
 use mathlib.Core.List.{List, [], _∷_, _++_, map}
-use lib.ListN.{length, getD, length-map, length-append, replicate, length-replicate, getD-replicate, List·getD-eq-default}
+use lib.ListN.{length, getD, length-map, replicate, length-replicate, length-set}
 use lib.Dec.{T, leb, ltb, le→leb, lt→ltb, nltb→le}
 use Rattle.base.specs.Branch.{if, caseO, caseL}
 use Rattle.base.specs.Lists.{All, any, isNil, from}
@@ -24,7 +24,7 @@ use Rattle.rules.specs.Sound.{rising, soundModel, soundSheet}
 use Rattle.rules.specs.Step.{Placed, placed, Answer, refuse, done, withPlaced, withoutBase, withChildren, stepOn, step, Ran, run, listOf, taken}
 use Rattle.laws.specs.Firing.{Within, firing-is, visits-within}
 use Rattle.pools.specs.Count.{hit, cnt, hit-elim, hit-self, hit-is, cnt-append}
-use Rattle.pools.specs.Slots.{Free, free-are, free-once, free-more, placed-length, placed-all, placed-slots, placed-cnt, placed-low, placed-differ}
+use Rattle.pools.specs.Slots.{stored-length, Free, free-are, free-once, free-more, placed-length, placed-all, placed-slots, placed-cnt, placed-low, placed-differ}
 use Rattle.pools.specs.Tidy.{Listed, placesOf, Tidy}
 use Rattle.pools.specs.Moves.{Kept, kept-tidy, removed, New, placed-tidy}
 
@@ -80,7 +80,7 @@ module _ (s : State) (i : ℕ) (ws : List ℕ) (e : s .waiting ≡ i ∷ ws) whe
   pub first-listed : Listed s i
   first-listed = let c = first-counts i in let h = hit-self i in omega arith
 
-  base-counts : (j : ℕ) → cnt j (used s) ≡ hit j i + cnt j (used (withoutBase s i ws))
+  pub base-counts : (j : ℕ) → cnt j (used s) ≡ hit j i + cnt j (used (withoutBase s i ws))
   unfolding used withoutBase changed
   base-counts j = first-counts j
 
@@ -88,27 +88,29 @@ module _ (s : State) (i : ℕ) (ws : List ℕ) (e : s .waiting ≡ i ∷ ws) whe
   unfolding withoutBase changed
   base-kept lim b g = removed lim b i s (withoutBase s i ws) g (g .there i first-listed) refl refl refl refl base-counts
 
+  -- A sheet that is complete changes its list only.
+  pub done-counts : (j : ℕ) → cnt j (used (changed s (s .next) ws (s .complete ++ (i ∷ [])) (s .bounded) (s .slots))) ≡ cnt j (used s)
+  unfolding changed used cnt
+  done-counts j =
+      let a = first-counts j in
+      let p = cnt-append j ws (s .complete ++ s .bounded) in
+      let q = cnt-append j (s .complete) (s .bounded) in
+      let r = cnt-append j ws ((s .complete ++ (i ∷ [])) ++ s .bounded) in
+      let u = cnt-append j (s .complete ++ (i ∷ [])) (s .bounded) in
+      let v = cnt-append j (s .complete) (i ∷ []) in
+      omega arith
+
   pub done-kept : (lim : Limits) (b : Book) → Tidy lim b s → Kept s (changed s (s .next) ws (s .complete ++ (i ∷ [])) (s .bounded) (s .slots))
-  unfolding changed sheetAt used cnt
+  unfolding changed sheetAt
   done-kept lim b g = record {
     scheduler = refl;
     strategy = refl;
     next = refl;
     size = refl;
-    fewer = λ j. (let c = counts j in omega arith);
+    fewer = λ j. (let c = done-counts j in omega arith);
     still = λ j l. refl;
-    blanks = λ j z. g .blanks j (let c = counts j in omega arith);
+    blanks = λ j z. g .blanks j (let c = done-counts j in omega arith);
   }
-    where
-      counts : (j : ℕ) → cnt j (ws ++ ((s .complete ++ (i ∷ [])) ++ s .bounded)) ≡ cnt j (used s)
-      counts j =
-          let a = first-counts j in
-          let p = cnt-append j ws (s .complete ++ s .bounded) in
-          let q = cnt-append j (s .complete) (s .bounded) in
-          let r = cnt-append j ws ((s .complete ++ (i ∷ [])) ++ s .bounded) in
-          let u = cnt-append j (s .complete ++ (i ∷ [])) (s .bounded) in
-          let v = cnt-append j (s .complete) (i ∷ []) in
-          omega arith
 
 -- ---- places
 
@@ -191,27 +193,60 @@ module _ (lim : Limits) (b : Book) (kids : KidsSound lim b) where
   run-tidy (suc n) bd s g =
       if-elim (λ (y : Ran). Tidy lim b (y .state)) _ _ _ (λ _. run-tidy n bd (step lim bd (rules b) s .state) (step-tidy bd s g)) (λ _. g)
 
+-- ---- the number of slots stays
+
+base-size : (s : State) (i : ℕ) (ws : List ℕ) → length (withoutBase s i ws .slots) ≡ length (s .slots)
+unfolding withoutBase changed freed
+base-size s i ws = length-set (s .slots) i blank
+
+did-size : (lim : Limits) (bd : Bound) (rs : List Sequent) (s : State) (r : Answer) → Did lim bd rs s r → length (r .state .slots) ≡ length (s .slots)
+unfolding refuse done changed withPlaced
+did-size lim bd rs s _ (refusing n z) = refl
+did-size lim bd rs s _ (completing i ws e q) = refl
+did-size lim bd rs s _ (failing i ws f e q t) = base-size s i ws
+did-size lim bd rs s _ (branching i ws f e q t u v) = stored-length _ (withoutBase s i ws .slots) ∙ base-size s i ws
+
+pub step-size : (lim : Limits) (bd : Bound) (rs : List Sequent) (s : State) → length (step lim bd rs s .state .slots) ≡ length (s .slots)
+step-size lim bd rs s = did-size lim bd rs s _ (step-did lim bd rs s)
+
+pub run-size : (lim : Limits) (n : ℕ) (bd : Bound) (rs : List Sequent) (s : State) → length (run lim n bd rs s .state .slots) ≡ length (s .slots)
+unfolding run
+run-size lim zero bd rs s = refl
+run-size lim (suc n) bd rs s =
+    if-elim (λ (y : Ran). length (y .state .slots) ≡ length (s .slots)) _ _ _ (λ _. run-size lim n bd rs (step lim bd rs s .state) ∙ step-size lim bd rs s) (λ _. refl)
+
+pub taken-size : (l : ℕ) (s : State) (i : ℕ) (is : List ℕ) → length (taken l s i is .slots) ≡ length (s .slots)
+unfolding taken changed freed
+taken-size zero s i is = length-set (s .slots) i blank
+taken-size (suc n) s i is = length-set (s .slots) i blank
+
+pub opened-size : (sc st n : ℕ) → length (opened sc st n .slots) ≡ n
+unfolding opened
+opened-size sc st n = length-replicate n blank
+
 -- ---- take
 
 module _ (lim : Limits) (b : Book) (s : State) (i : ℕ) (is : List ℕ) where
-  pub taken-kept : Tidy lim b s → (l : ℕ) → listOf l s ≡ i ∷ is → Kept s (taken l s i is)
+  pub taken-counts : (l : ℕ) → listOf l s ≡ i ∷ is → (j : ℕ) → cnt j (used s) ≡ hit j i + cnt j (used (taken l s i is))
   unfolding taken listOf changed used cnt
-  taken-kept g zero e = removed lim b i s (taken zero s i is) g (g .there i (let c = counts i in let h = hit-self i in omega arith)) refl refl refl refl counts
-    where
-      counts : (j : ℕ) → cnt j (used s) ≡ hit j i + cnt j (s .waiting ++ (is ++ s .bounded))
-      counts j =
-          let a = subst (λ c. cnt j (s .waiting ++ (c ++ s .bounded)) ≡ cnt j (s .waiting) + (hit j i + cnt j (is ++ s .bounded))) (sym e) (cnt-append j (s .waiting) (i ∷ is ++ s .bounded)) in
-          let c = cnt-append j (s .waiting) (is ++ s .bounded) in
-          omega arith
-  taken-kept g (suc n) e = removed lim b i s (taken (suc n) s i is) g (g .there i (let c = counts i in let h = hit-self i in omega arith)) refl refl refl refl counts
-    where
-      counts : (j : ℕ) → cnt j (used s) ≡ hit j i + cnt j (s .waiting ++ (s .complete ++ is))
-      counts j =
-          let a = subst (λ c. cnt j (s .waiting ++ (s .complete ++ c)) ≡ cnt j (s .waiting) + (cnt j (s .complete) + (hit j i + cnt j is))) (sym e)
-          (cnt-append j (s .waiting) (s .complete ++ (i ∷ is)) ∙ ap (λ k. cnt j (s .waiting) + k) (cnt-append j (s .complete) (i ∷ is))) in
-          let c = cnt-append j (s .waiting) (s .complete ++ is) in
-          let d = cnt-append j (s .complete) is in
-          omega arith
+  taken-counts zero e j =
+      let a = subst (λ c. cnt j (s .waiting ++ (c ++ s .bounded)) ≡ cnt j (s .waiting) + (hit j i + cnt j (is ++ s .bounded))) (sym e) (cnt-append j (s .waiting) (i ∷ is ++ s .bounded)) in
+      let c = cnt-append j (s .waiting) (is ++ s .bounded) in
+      omega arith
+  taken-counts (suc n) e j =
+      let a = subst (λ c. cnt j (s .waiting ++ (s .complete ++ c)) ≡ cnt j (s .waiting) + (cnt j (s .complete) + (hit j i + cnt j is))) (sym e)
+      (cnt-append j (s .waiting) (s .complete ++ (i ∷ is)) ∙ ap (λ k. cnt j (s .waiting) + k) (cnt-append j (s .complete) (i ∷ is))) in
+      let c = cnt-append j (s .waiting) (s .complete ++ is) in
+      let d = cnt-append j (s .complete) is in
+      omega arith
+
+  taken-there : Tidy lim b s → (l : ℕ) → listOf l s ≡ i ∷ is → i < length (s .slots)
+  taken-there g l e = g .there i (let c = taken-counts l e i in let h = hit-self i in omega arith)
+
+  pub taken-kept : Tidy lim b s → (l : ℕ) → listOf l s ≡ i ∷ is → Kept s (taken l s i is)
+  unfolding taken changed
+  taken-kept g zero e = removed lim b i s (taken zero s i is) g (taken-there g zero e) refl refl refl refl (taken-counts zero e)
+  taken-kept g (suc n) e = removed lim b i s (taken (suc n) s i is) g (taken-there g (suc n) e) refl refl refl refl (taken-counts (suc n) e)
 
   pub taken-tidy : Tidy lim b s → (l : ℕ) → listOf l s ≡ i ∷ is → Tidy lim b (taken l s i is)
   taken-tidy g l e = kept-tidy lim b s (taken l s i is) (taken-kept g l e) g
@@ -222,6 +257,10 @@ replicate-blank : (n j : ℕ) → getD (replicate n blank) j blank ≡ blank
 replicate-blank zero j = refl
 replicate-blank (suc n) zero = refl
 replicate-blank (suc n) (suc j) = replicate-blank n j
+
+pub opened-blank : (sc st n j : ℕ) → sheetAt (opened sc st n) j ≡ blank
+unfolding opened sheetAt
+opened-blank sc st n j = replicate-blank n j
 
 blank-sound : (lim : Limits) (b : Book) (n : ℕ) → 0 < n → T (soundSheet lim (b .names) n blank)
 unfolding soundSheet soundModel blank empty rising from

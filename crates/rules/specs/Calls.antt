@@ -1,5 +1,5 @@
 -- The four public calls (01, "Refusal numbers"): for all bytes and numbers, the answer and every lent byte afterwards.
--- Each promise is one relation between a call's inputs and its outcome. The exported functions' contracts are these promises.
+-- Each promise is one relation between a call's inputs and its outcome: what the contract of the exported function says, by name.
 use mathlib.Core.Path.{_≡_}
 use Prim.Native.Nat.{ℕ, zero, suc, _+_, _*_}
 use mathlib.Core.Bool.{Bool, true, false, not, _&&_, _||_}
@@ -19,8 +19,8 @@ use Rattle.rules.specs.Sound.{sound}
 -- ---- the arguments
 
 -- 11: "pool length not header plus 1 to 64 slots".
-unfoldable pub fits : ℕ → Bool
-fits len = eqb len (headSize + sheetSize limits * slotsIn limits len) && (leb 1 (slotsIn limits len) && leb (slotsIn limits len) mostSlots)
+unfoldable pub rightLength : ℕ → Bool
+rightLength len = eqb len (headSize + sheetSize limits * slotsIn limits len) && (leb 1 (slotsIn limits len) && leb (slotsIn limits len) mostSlots)
 
 -- "Bound 0 Unbounded, 1 DomainSize, 2 Depth Pure, 3 Depth Reuse, with a 32-bit number": how many are known, and which is meant.
 unfoldable pub bounds : ℕ
@@ -39,7 +39,7 @@ knownBound bound number = ltb bound bounds && (not (eqb bound 0) || eqb number 0
 -- 1 to 12 in order: the book's first fault, the pool's length, the settings of the call.
 unfoldable pub checked : {A : Type 0} → Bytes → Bytes → Bool → (ℕ → A) → (Book → A) → A
 checked book pool settings refusing going = caseRead (readBook book) (λ n at. refusing n) (λ b end.
-    if (fits (length pool)) (λ _. if settings (λ _. going b) (λ _. refusing 12)) (λ _. refusing 11))
+    if (rightLength (length pool)) (λ _. if settings (λ _. going b) (λ _. refusing 12)) (λ _. refusing 11))
 
 -- And 13: "pool not sound for this book".
 unfoldable pub soundly : {A : Type 0} → Bytes → Bytes → Bool → (ℕ → A) → (Book → State → A) → A

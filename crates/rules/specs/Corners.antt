@@ -34,13 +34,14 @@ pub record Shown : Type 0 where
   pub complete : List Held
   pub bounded : List Held
 
--- The settings, the book's sequents, the place and model of the sheet that waits in slot 0 of so many, and what comes out.
+-- The settings, the number of slots beside slot 0, the book's sequents, the place and model of the sheet that waits in slot 0, and
+-- what comes out.
 pub record Case : Type 0 where
   pub lim : Limits
   pub budget : ℕ
   pub scheduler : ℕ
   pub strategy : ℕ
-  pub slots : ℕ
+  pub others : ℕ
   pub bound : Bound
   pub sequents : List Sequent
   pub place : ℕ
@@ -69,7 +70,7 @@ start k = record {
   waiting = 0 ∷ [];
   complete = [];
   bounded = [];
-  slots = record { number = 0; place = k .place; model = k .before } ∷ replicate (k .slots) blank;
+  slots = record { number = 0; place = k .place; model = k .before } ∷ replicate (k .others) blank;
 }
 
 -- Its `unfolding` line names every function of a run.
@@ -123,17 +124,17 @@ w↦ v = (key 3 0 [], v)
 -- One step, FIFO and Linear, over 12 slots.
 one : Bound → Sequent → Model → Shown → Case
 one b r m after = record
-    { lim = limits; budget = 1; scheduler = 0; strategy = 0; slots = 11; bound = b; sequents = r ∷ []; place = 0; before = m; after = after }
+    { lim = limits; budget = 1; scheduler = 0; strategy = 0; others = 11; bound = b; sequents = r ∷ []; place = 0; before = m; after = after }
 
 -- One step, Fair, from a place.
 fairly : List Sequent → ℕ → Model → Shown → Case
 fairly rs p m after = record
-    { lim = limits; budget = 1; scheduler = 0; strategy = 1; slots = 11; bound = unbounded; sequents = rs; place = p; before = m; after = after }
+    { lim = limits; budget = 1; scheduler = 0; strategy = 1; others = 11; bound = unbounded; sequents = rs; place = p; before = m; after = after }
 
--- One step under a scheduler, into so many slots.
+-- One step under a scheduler, with so many slots beside the base's own.
 under : Limits → ℕ → ℕ → Sequent → Model → Shown → Case
 under lim sc n r m after = record
-    { lim = lim; budget = 1; scheduler = sc; strategy = 0; slots = n; bound = unbounded; sequents = r ∷ []; place = 0; before = m; after = after }
+    { lim = lim; budget = 1; scheduler = sc; strategy = 0; others = n; bound = unbounded; sequents = r ∷ []; place = 0; before = m; after = after }
 
 held : ℕ → ℕ → ℕ → Model → Held
 held i n p m = record { slot = i; number = n; place = p; model = m }
@@ -209,6 +210,7 @@ table =
     ∷ one (depthPure 0) rfa empty (bounds empty)
     ∷ one (depthReuse 0) rfa empty (bounds empty)
     ∷ one (depthPure 1) rfa empty (opens a-fa)
+    ∷ one (depthReuse 1) rfa empty (opens a-fa)
     -- a->0, f(0)->1, a = f(a): both keys ->0, depth 0, next element 2.
     ∷ one unbounded (rule 0 [] (plain (same a (f a) ∷ []) ∷ [])) (model 2 (a↦ 0 ∷ f↦ 0 1 ∷ []) [] (0 ∷ 1 ∷ []))
     (opens (model 2 (a↦ 0 ∷ f↦ 0 0 ∷ []) [] (0 ∷ 0 ∷ [])))

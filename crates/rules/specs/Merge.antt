@@ -52,7 +52,7 @@ mergeInto s l m ps =
     let r = refile (map (renameEntry s l) (m .keys)) ([], map (renamePair s l) ps) in
     (record { created = m .created; keys = r .0; facts = refact (map (renameFact s l) (m .facts)) []; depths = mergeDepths s l (m .depths) }, r .1)
 
--- The pairs one after another. Each round uses up a pair, or adds one for each key that falls away: as many rounds as there are
+-- The pairs one after another. Each round uses up a pair, and adds one for each key that falls away: as many rounds as there are
 -- pairs and keys are enough.
 unfoldable pub mergeAll : ℕ → Model → History → List Pair → Model × History
 mergeAll zero m now ps = (m, now)

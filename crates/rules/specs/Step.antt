@@ -1,4 +1,4 @@
--- A step, a run and a take on the pool's state (01, "How a step goes" and "Refusal numbers" 14 to 18; `chase_step` and
+-- A step, a run and a take on the pool's state (01, "How a step goes" and "Refusal numbers" 14 to 17; `chase_step` and
 -- `chase_all` in the Rust).
 use Prim.Native.Nat.{ℕ, zero, suc, _+_}
 use mathlib.Core.Bool.{Bool, true, false}

@@ -1,0 +1,1 @@
+// demands: the demands as theorems over the definitions. It has no code: see specs/.

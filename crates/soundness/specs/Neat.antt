@@ -1,0 +1,102 @@
+-- A neat sheet: what "sound" says of a sheet alone, as a record. It has three parts: limits, order and names, and links.
+-- Merging keeps limits, order and names since each round does; Join has the links.
+use mathlib.Core.Path.{refl, sym, subst}
+use Prim.Native.Nat.{ℕ, zero, suc, _+_, _≤_, min, max}
+use native.Mathlib.Nat.{le-trans}
+use native.Mathlib.Omega.{arith}
+use mathlib.Core.List.{List, [], _∷_, map}
+use lib.ListN.{length, length-map}
+use lib.Dec.{T}
+use Rattle.base.specs.Lists.{All}
+use Rattle.base.specs.BranchLaws.{if-elim}
+use Rattle.base.specs.ListLaws.{all-map}
+use Rattle.rules.specs.Book.{Names}
+use Rattle.rules.specs.Sheet.{Fact, Entry, Model, empty, Limits}
+use Rattle.rules.specs.Bound.{History}
+use Rattle.rules.specs.Merge.{rename, renameEntry, renameFact, Pair, renamePair, Filed, file, refile, refact, mergeInto, mergeAll, lowered, merge}
+use Rattle.rules.specs.Sound.{hasArity, declaredAs, keyDeclared, factDeclared}
+use Rattle.laws.specs.Tables.{KeysRise, FactsRise, refile-all, refile-rises, refact-all, refact-rises}
+use Rattle.soundness.specs.Tools.{insertKey-short, insertFact-short}
+use Rattle.soundness.specs.Join.{Linked}
+
+-- Within the limits.
+pub record Small (lim : Limits) (m : Model) : Type 0 where
+  pub fewCreated : m .created ≤ lim .elements
+  pub fewKeys : length (m .keys) ≤ lim .keys
+  pub fewFacts : length (m .facts) ≤ lim .facts
+
+-- Keys and facts rise, and name declared symbols with their arities.
+pub record Listed (d : Names) (m : Model) : Type 0 where
+  pub keysRise : KeysRise (m .keys)
+  pub factsRise : FactsRise (m .facts)
+  pub keysDeclared : All (λ (x : Entry). T (keyDeclared d x)) (m .keys)
+  pub factsDeclared : All (λ (f : Fact). T (factDeclared d f)) (m .facts)
+
+pub record Neat (lim : Limits) (d : Names) (m : Model) : Type 0 where
+  pub small : Small lim m
+  pub listed : Listed d m
+  pub linked : Linked m
+
+-- ---- what each round of a merge keeps, the merge keeps
+
+mergeAll-keeps : (Q : Model → Type 0) → ((s l : ℕ) (m : Model) (qs : List Pair) → Q m → Q (mergeInto s l m qs .0))
+    → (k : ℕ) (m : Model) (now : History) (qs : List Pair) → Q m → Q (mergeAll k m now qs .0)
+unfolding mergeAll
+mergeAll-keeps Q into zero m now qs g = g
+mergeAll-keeps Q into (suc k) m now [] g = g
+mergeAll-keeps Q into (suc k) m now (q ∷ qs) g =
+    if-elim (λ (r : Model × History). Q (r .0)) _ _ _
+    (λ _. mergeAll-keeps Q into k m now qs g) (λ _. mergeAll-keeps Q into k _ _ _ (into (min (q .0) (q .1)) (max (q .0) (q .1)) m qs g))
+
+refile-short : (xs : List Entry) (r : Filed) → length (refile xs r .0) ≤ length xs + length (r .0)
+unfolding refile file
+refile-short [] r = omega arith
+refile-short (x ∷ xs) r = le-trans (refile-short xs (file x r)) (let q = insertKey-short x (r .0) in omega arith)
+
+refact-short : (fs ds : List Fact) → length (refact fs ds) ≤ length fs + length ds
+unfolding refact
+refact-short [] ds = omega arith
+refact-short (f ∷ fs) ds = le-trans (refact-short fs _) (let q = insertFact-short f ds in omega arith)
+
+into-small : (lim : Limits) (s l : ℕ) (m : Model) (qs : List Pair) → Small lim m → Small lim (mergeInto s l m qs .0)
+unfolding mergeInto
+into-small lim s l m qs g = record {
+  fewCreated = g .fewCreated;
+  fewKeys = let q = refile-short (map (renameEntry s l) (m .keys)) ([], map (renamePair s l) qs) in let p = length-map (m .keys) (renameEntry s l) in let z = g .fewKeys in omega arith;
+  fewFacts = let q = refact-short (map (renameFact s l) (m .facts)) [] in let p = length-map (m .facts) (renameFact s l) in let z = g .fewFacts in omega arith;
+}
+
+pub merge-small : (lim : Limits) (a b : ℕ) (m : Model) (now : History) → Small lim m → Small lim (merge a b m now .0)
+unfolding merge lowered
+merge-small lim a b m now g =
+    let r = mergeAll-keeps (Small lim) (into-small lim) (suc (length (m .keys))) m now ((a, b) ∷ []) g in
+    record { fewCreated = r .fewCreated; fewKeys = r .fewKeys; fewFacts = r .fewFacts }
+
+into-listed : (d : Names) (s l : ℕ) (m : Model) (qs : List Pair) → Listed d m → Listed d (mergeInto s l m qs .0)
+unfolding mergeInto renameEntry renameFact keyDeclared factDeclared
+into-listed d s l m qs g = record {
+  keysRise = refile-rises (map (renameEntry s l) (m .keys)) ([], map (renamePair s l) qs) tt;
+  factsRise = refact-rises (map (renameFact s l) (m .facts)) [] tt;
+  keysDeclared = refile-all (λ (x : Entry). T (keyDeclared d x)) (map (renameEntry s l) (m .keys)) ([], map (renamePair s l) qs)
+      (all-map (λ (x : Entry). T (keyDeclared d x)) (λ (x : Entry). T (keyDeclared d x)) (renameEntry s l)
+      (λ x t. subst (λ n. T (declaredAs d (x .0 .kind) (x .0 .symbol) n)) (sym (length-map (x .0 .args) (rename s l))) t) (m .keys) (g .keysDeclared)) tt;
+  factsDeclared = refact-all (λ (f : Fact). T (factDeclared d f)) (map (renameFact s l) (m .facts)) []
+      (all-map (λ (f : Fact). T (factDeclared d f)) (λ (f : Fact). T (factDeclared d f)) (renameFact s l)
+      (λ f t. subst (λ n. T (hasArity (d .relations) (f .relation) n)) (sym (length-map (f .args) (rename s l))) t) (m .facts) (g .factsDeclared)) tt;
+}
+
+pub merge-listed : (d : Names) (a b : ℕ) (m : Model) (now : History) → Listed d m → Listed d (merge a b m now .0)
+unfolding merge lowered
+merge-listed d a b m now g =
+    let r = mergeAll-keeps (Listed d) (into-listed d) (suc (length (m .keys))) m now ((a, b) ∷ []) g in
+    record { keysRise = r .keysRise; factsRise = r .factsRise; keysDeclared = r .keysDeclared; factsDeclared = r .factsDeclared }
+
+-- ---- the sheet of a new pool
+
+pub empty-neat : (lim : Limits) (d : Names) → Neat lim d empty
+unfolding empty
+empty-neat lim d = record {
+  small = record { fewCreated = omega arith; fewKeys = omega arith; fewFacts = omega arith };
+  listed = record { keysRise = tt; factsRise = tt; keysDeclared = tt; factsDeclared = tt };
+  linked = record { keyArgs = tt; factArgs = tt; low = tt; long = refl; reached = λ e y. absurd (y .lower); rests = tt; gone = λ e n. refl };
+}
