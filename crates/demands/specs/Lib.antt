@@ -6,6 +6,7 @@ pub mod Halves
 pub mod Worlds
 pub mod Demand3
 pub mod Outcomes
+pub mod Typed
 pub mod Chain
 pub mod Useless
 pub mod Demands
