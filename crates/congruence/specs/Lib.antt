@@ -1,0 +1,12 @@
+-- What merging makes of a sheet, said without pairs and rounds: the law that each way of merging meets, and that it determines the
+-- merged sheet. `Merged` (in Merged) is the law, `merged-unique` says that one sheet meets it, `merge-merged` that `merge` does.
+pub mod Forced
+pub mod Images
+pub mod Rising
+pub mod Filing
+pub mod Rounds
+pub mod Way
+pub mod Survivors
+pub mod Depths
+pub mod Merged
+pub mod Sound
