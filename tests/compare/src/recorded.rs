@@ -1,0 +1,235 @@
+//! Recorded answers: plain text, one record a line, read and replayed on the reference, and on a
+//! second engine if there is one. How they are made: tests/recorded/README.md.
+
+use crate::judge::Calls;
+use reference::calls::{open_with, run_with, step_with, take_with};
+use reference::check::check;
+use reference::child::Bound;
+use reference::listing::listing;
+use reference::pool::View;
+use reference::sound::broken;
+use reference::watch::Silent;
+use reference::{VERSION_1, VERSION_1 as LIMITS};
+use std::path::Path;
+
+/// A short print of bytes (FNV-1a, 64 bits).
+pub fn print(bytes: &[u8]) -> u64 {
+    let step = |hash: u64, byte: &u8| (hash ^ *byte as u64).wrapping_mul(0x0100_0000_01b3);
+    bytes.iter().fold(0xcbf2_9ce4_8422_2325, step)
+}
+
+/// Bytes as hex digits; `-` for none.
+pub fn hex(bytes: &[u8]) -> String {
+    if bytes.is_empty() {
+        return "-".to_string();
+    }
+    bytes.iter().map(|byte| format!("{byte:02x}")).collect()
+}
+
+pub fn unhex(text: &str) -> Vec<u8> {
+    if text == "-" {
+        return Vec::new();
+    }
+    let digit = |i: usize| u8::from_str_radix(&text[i..i + 2], 16).expect("two hex digits");
+    (0..text.len()).step_by(2).map(digit).collect()
+}
+
+/// The four calls of the reference, as an engine.
+pub struct Reference;
+
+impl Calls for Reference {
+    fn open(&mut self, book: &[u8], pool: &mut [u8], scheduler: u32, strategy: u32) -> u32 {
+        open_with(&LIMITS, book, pool, scheduler, strategy)
+    }
+
+    fn step(&mut self, book: &[u8], pool: &mut [u8], bound: Bound) -> u32 {
+        step_with(&LIMITS, book, pool, bound, &mut Silent)
+    }
+
+    fn run(&mut self, book: &[u8], pool: &mut [u8], bound: Bound, budget: u32) -> (u32, u32) {
+        run_with(&LIMITS, book, pool, bound, budget, &mut Silent)
+    }
+
+    fn take(&mut self, book: &[u8], pool: &mut [u8], list: u32, out: &mut [u8]) -> u32 {
+        take_with(&LIMITS, book, pool, list, out)
+    }
+}
+
+fn read(folder: &Path, file: &str) -> Result<String, String> {
+    std::fs::read_to_string(folder.join(file)).map_err(|error| format!("recorded {file}: {error}"))
+}
+
+/// The records of a file: lines split at spaces, comments and empty lines left out.
+fn records(text: &str) -> impl Iterator<Item = (usize, Vec<&str>)> {
+    let lines =
+        text.lines().enumerate().filter(|(_, line)| !line.is_empty() && !line.starts_with('#'));
+    lines.map(|(at, line)| (at + 1, line.split(' ').collect()))
+}
+
+fn number<T: std::str::FromStr>(text: &str) -> T {
+    text.parse().unwrap_or_else(|_| panic!("a recorded number: {text}"))
+}
+
+/// Replays every file; answers how many records were held against the engine.
+pub fn replay(folder: &Path, engine: &mut dyn Calls) -> Result<[usize; 4], String> {
+    let listings = replay_listings(&read(folder, "listings.txt")?)?;
+    let refusals = replay_refusals(&read(folder, "refusals.txt")?, engine)?;
+    let pools = replay_pools(&read(folder, "pools.txt")?, engine)?;
+    let unsound = replay_unsound(&read(folder, "unsound.txt")?, engine)?;
+    Ok([listings, refusals, pools, unsound])
+}
+
+/// `input HEX`, then `| ` before each line of the listing.
+fn replay_listings(text: &str) -> Result<usize, String> {
+    let mut count = 0;
+    for case in text.split("\ninput ").skip(1) {
+        let (input, rest) = case.split_once('\n').ok_or("a listing without lines")?;
+        let lines = rest.lines().filter_map(|line| line.strip_prefix("| "));
+        let recorded: String = lines.map(|line| format!("{line}\n")).collect();
+        let found = listing(&unhex(input));
+        if recorded.is_empty() || found != recorded {
+            return Err(format!(
+                "listing {count}: recorded\n{recorded}found\n{found}input {input}"
+            ));
+        }
+        count += 1;
+    }
+    Ok(count)
+}
+
+/// `refusal NUMBER PLACE HEX [pad COUNT BYTE]`: a book, its refusal and the place of the fault.
+fn replay_refusals(text: &str, engine: &mut dyn Calls) -> Result<usize, String> {
+    let mut count = 0;
+    for (line, record) in records(text) {
+        let (wanted, place): (u32, usize) = (number(record[1]), number(record[2]));
+        let mut book = unhex(record[3]);
+        if record.len() > 4 {
+            book.resize(book.len() + number::<usize>(record[5]), number(record[6]));
+        }
+        let found = check(&book).map_err(|fault| (fault.number, fault.place));
+        if found.as_ref().err() != Some(&(wanted, place)) {
+            return Err(format!("refusals.txt line {line}: found {:?}", found.err()));
+        }
+        let mut pool = vec![7; LIMITS.pool(1)];
+        let answer = engine.open(&book, &mut pool, 0, 0);
+        let untouched = pool.iter().all(|&byte| byte == 7);
+        if answer != wanted || !untouched {
+            return Err(format!("refusals.txt line {line}: open answers {answer}"));
+        }
+        count += 1;
+    }
+    Ok(count)
+}
+
+/// Scripts of calls: `book HEX`, `room BYTES` (a pool of zeros), then calls with their answers and
+/// the print of the pool after them; `next NUMBER` sets the pool's next model number by hand.
+fn replay_pools(text: &str, engine: &mut dyn Calls) -> Result<usize, String> {
+    let (mut book, mut pool, mut count) = (Vec::new(), Vec::new(), 0);
+    for (line, record) in records(text) {
+        match record[0] {
+            "book" => book = unhex(record[1]),
+            "room" => pool = vec![0; number(record[1])],
+            _ => {
+                let found = call(&record, &book, &mut pool, engine);
+                if found != record.join(" ") {
+                    return Err(format!(
+                        "pools.txt line {line}: {}, found {found}",
+                        record.join(" ")
+                    ));
+                }
+                count += 1;
+            }
+        }
+    }
+    Ok(count)
+}
+
+/// Makes the call of a record and writes the record as it should be.
+pub fn call(record: &[&str], book: &[u8], pool: &mut [u8], engine: &mut dyn Calls) -> String {
+    let given = |place: usize| -> u32 { number(record[place]) };
+    match record[0] {
+        "open" => {
+            let answer = engine.open(book, pool, given(1), given(2));
+            format!("open {} {} = {answer} {:016x}", given(1), given(2), print(pool))
+        }
+        "next" => {
+            reference::pool::set_next(pool, given(1));
+            format!("next {}", given(1))
+        }
+        "step" => {
+            let bound = Bound { kind: given(1), number: given(2) };
+            let answer = engine.step(book, pool, bound);
+            format!("step {} {} = {answer} {:016x}", given(1), given(2), print(pool))
+        }
+        "run" => {
+            let bound = Bound { kind: given(1), number: given(2) };
+            let (stop, steps) = engine.run(book, pool, bound, given(3));
+            let (kind, number, budget, after) = (given(1), given(2), given(3), print(pool));
+            format!("run {kind} {number} {budget} = {stop} {steps} {after:016x}")
+        }
+        _ => {
+            let mut out = vec![9; given(2) as usize];
+            let answer = engine.take(book, pool, given(1), &mut out);
+            let (after, written) = (print(pool), print(&out));
+            format!("take {} {} = {answer} {after:016x} {written:016x}", given(1), given(2))
+        }
+    }
+}
+
+/// `clause NAME`, `book HEX`, `length N`, `at OFFSET HEX` for the bytes that are not zero, then
+/// `change OFFSET BYTE` for what makes the pool sound, then `end`.
+fn replay_unsound(text: &str, engine: &mut dyn Calls) -> Result<usize, String> {
+    let (mut name, mut book, mut pool, mut sound) = ("", Vec::new(), Vec::new(), Vec::new());
+    let mut seen: Vec<&str> = Vec::new();
+    for (_, record) in records(text) {
+        match record[0] {
+            "clause" => name = record[1],
+            "book" => book = unhex(record[1]),
+            "length" => pool = vec![0; number(record[1])],
+            "at" => {
+                let (at, bytes) = (number::<usize>(record[1]), unhex(record[2]));
+                pool[at..at + bytes.len()].copy_from_slice(&bytes);
+                sound.clone_from(&pool);
+            }
+            "change" => sound[number::<usize>(record[1])] = number(record[2]),
+            _ => {
+                unsound_case(name, &book, &pool, &sound, engine)?;
+                seen.push(name);
+            }
+        }
+    }
+    let missing: Vec<&str> = generator::damage::clauses().filter(|c| !seen.contains(c)).collect();
+    if !missing.is_empty() {
+        return Err(format!("no unsound pool is recorded for {missing:?}"));
+    }
+    Ok(seen.len())
+}
+
+fn unsound_case(
+    name: &str,
+    book: &[u8],
+    pool: &[u8],
+    sound: &[u8],
+    engine: &mut dyn Calls,
+) -> Result<(), String> {
+    let checked = check(book).map_err(|fault| format!("unsound {name}: {fault:?}"))?;
+    let clauses = |bytes| broken(&View { bytes, limits: &VERSION_1 }, &checked);
+    if clauses(pool) != [name] || !clauses(sound).is_empty() {
+        return Err(format!(
+            "unsound {name}: breaks {:?}, then {:?}",
+            clauses(pool),
+            clauses(sound)
+        ));
+    }
+    let bound = Bound { kind: 0, number: 0 };
+    let mut lent = pool.to_vec();
+    let answer = engine.run(book, &mut lent, bound, 0);
+    if answer != (13, 0) || lent != pool {
+        return Err(format!("unsound {name}: run answers {answer:?}"));
+    }
+    let answer = engine.run(book, &mut sound.to_vec(), bound, 0);
+    if answer != (0, 0) {
+        return Err(format!("unsound {name}, made sound: run answers {answer:?}"));
+    }
+    Ok(())
+}

@@ -1,0 +1,1 @@
+pub const APPENDED: &str = "the item that the comment above stands before";
