@@ -38,16 +38,17 @@ rule-typed : (A : Arrangement) (s : Sequent) → KeepsRule A (completed s) → K
 unfolding completed bodyTrue headTrue
 rule-typed A s k c l a t =
     some-any (disjunctTrue A c) (s .head) (some-some (λ d. T (disjunctTrue A c (completedDisjunct (s .free) d))) (λ d. T (disjunctTrue A c d))
-      (λ d u. disjunct-typed A c (s .free) d u) (s .head) (some-unmap (λ d. T (disjunctTrue A c d)) (completedDisjunct (s .free)) (s .head) (any-some (disjunctTrue A c) (map (completedDisjunct (s .free)) (s .head)) (k c l a t))))
+    (λ d u. disjunct-typed A c (s .free) d u) (s .head) (some-unmap (λ d. T (disjunctTrue A c d)) (completedDisjunct (s .free)) (s .head) (any-some (disjunctTrue A c) (map (completedDisjunct (s .free)) (s .head)) (k c l a t))))
 
 typed-rule : (A : Arrangement) (s : Sequent) → KeepsRule A s → KeepsRule A (completed s)
 unfolding completed bodyTrue headTrue
 typed-rule A s k c l a t =
     some-any (disjunctTrue A c) (map (completedDisjunct (s .free)) (s .head))
-      (some-map (λ d. T (disjunctTrue A c d)) (λ d. T (disjunctTrue A c d)) (completedDisjunct (s .free)) (λ d u. typed-disjunct A c (s .free) d u) (s .head) (any-some (disjunctTrue A c) (s .head) (k c l a t)))
+    (some-map (λ d. T (disjunctTrue A c d)) (λ d. T (disjunctTrue A c d)) (completedDisjunct (s .free)) (λ d u. typed-disjunct A c (s .free) d u) (s .head) (any-some (disjunctTrue A c) (s .head) (k c l a t)))
 
 pub keeps-typed : (A : Arrangement) (b : Book) → (Keeps A (rules b) → Keeps A (b .sequents)) × (Keeps A (b .sequents) → Keeps A (rules b))
 unfolding rules
-keeps-typed A b =
-    ( (λ k. all-all (λ s. KeepsRule A (completed s)) (KeepsRule A) (rule-typed A) (b .sequents) (all-unmap (KeepsRule A) completed (b .sequents) k))
-    , (λ k. all-map (KeepsRule A) (KeepsRule A) completed (typed-rule A) (b .sequents) k) )
+keeps-typed A b = (
+  (λ k. all-all (λ s. KeepsRule A (completed s)) (KeepsRule A) (rule-typed A) (b .sequents) (all-unmap (KeepsRule A) completed (b .sequents) k)),
+  (λ k. all-map (KeepsRule A) (KeepsRule A) completed (typed-rule A) (b .sequents) k),
+)

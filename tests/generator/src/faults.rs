@@ -115,7 +115,7 @@ pub fn faulty(rng: &mut Rng, draft: &Draft, target: Target) -> Option<(Vec<u8>, 
     check_traced(&bytes, &mut numbers).ok()?;
     let place = match wanted {
         Mark => rng.below(3),
-        Length => BOOK_BYTES,
+        Length => 0,
         End => bytes.len(),
         _ => {
             let places: Vec<usize> =

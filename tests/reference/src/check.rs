@@ -74,7 +74,7 @@ pub fn check(bytes: &[u8]) -> Result<Book, Fault> {
 /// Checks `bytes` and tells `trace` of each number.
 pub fn check_traced<T: Trace>(bytes: &[u8], trace: &mut T) -> Result<Book, Fault> {
     if bytes.len() > BOOK_BYTES {
-        return Err(Fault { number: 1, place: BOOK_BYTES, wanted: Wanted::Length });
+        return Err(Fault { number: 1, place: 0, wanted: Wanted::Length });
     }
     let mut reader = Reader { bytes, at: 0, book: Book::default(), named: 0, trace };
     reader.mark()?;

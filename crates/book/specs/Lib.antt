@@ -1,0 +1,2 @@
+-- Steps of the reading that the check takes by themselves.
+pub mod Steps

@@ -1,0 +1,2 @@
+-- A variable in the literals of a text.
+pub mod Mentions

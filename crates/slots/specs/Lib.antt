@@ -1,0 +1,3 @@
+-- The working form of a sheet as a slot's bytes.
+pub mod Store
+pub mod Carry

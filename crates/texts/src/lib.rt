@@ -1,0 +1,1 @@
+// texts: laws of reading a book. It has no code: see specs/.

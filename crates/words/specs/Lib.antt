@@ -1,0 +1,1 @@
+-- The readers are specified by `getD` and by `num` of the rules: nothing is defined here.
