@@ -1,0 +1,3 @@
+-- Counting through choices.
+pub mod Choosing
+pub mod Steps

@@ -1,0 +1,61 @@
+-- Both ends of the slice are renamed before the keys are filed anew.
+use Rattle.joining.specs.Leaf.{joined-keys}
+use lib.ListN.{length}
+use Prim.Native.Nat.{_-_}
+use native.Mathlib.Omega.{arith}
+use borrow.Author.Needs.{needs}
+use Rattle.joining.proofs.join_keys.Statement.{statement}
+use Rattle.joining.proofs.join_keys.Tie as tie
+use Rattle.joining.proofs.join_keys.Reads as reads
+use Rattle.joining.proofs.join_keys.Lts as lts
+use Rattle.filing.proofs.refile.Reads as refile-reads
+use Rattle.filing.proofs.rename_all.Reads as rename-all-reads
+
+rename-all-requires : tie.Need-rename-all-requires
+rename-all-requires c κs = search needs
+
+mul-rename-all : tie.Need-mul-rename-all
+mul-rename-all c = search needs
+
+sub-rename-all : tie.Need-sub-rename-all
+sub-rename-all c = search needs
+
+part-rename-all-start : tie.Need-part-rename-all-start
+part-rename-all-start c = search needs
+
+part-rename-all-end : tie.Need-part-rename-all-end
+part-rename-all-end c = search needs
+
+sub-rename-all-2 : tie.Need-sub-rename-all-2
+sub-rename-all-2 c = search needs
+
+rename-all-requires-2 : tie.Need-rename-all-requires-2
+rename-all-requires-2 c κs = search needs
+
+refile-requires : tie.Need-refile-requires
+refile-requires c κs = search needs
+
+same-length : tie.Need-same-length
+same-length c = search needs
+
+returns : tie.Need-returns
+returns c =
+    let s = c .before .before .before .before .before .before .before .before .before .before .before .before .before in
+    let a = s .args in
+    joined-keys (a .s) (a .l) (a .n) (a .top) (length (a .t .now) - a .top) (a .t .now) (s .pre .0) (s .pre .1 .0) (omega arith) _ _
+    (c .before .before .before .before .before .before .before .before .before .before .rename-all .ensures) (c .before .before .before .before .before .before .rename-all2 .ensures) _ _ _ (c .before .before .refile .ensures)
+
+pub join-keys-spec : {M : Type 1} → statement M
+join-keys-spec =
+    tie.close
+    (tie.spec
+    rename-all-requires
+    mul-rename-all
+    sub-rename-all
+    part-rename-all-start
+    part-rename-all-end
+    sub-rename-all-2
+    rename-all-requires-2
+    refile-requires
+    same-length
+    returns)

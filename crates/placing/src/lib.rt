@@ -1,0 +1,1 @@
+// placing: children placed one at a time. It has no code: see specs/.

@@ -1,0 +1,81 @@
+-- Take as a whole: the refusals 11, 12 and 13 behind the book's check, and the promise.
+use mathlib.Core.Path.{_≡_, refl, sym, ap, ap₂, _∙_, subst}
+use Prim.Native.Nat.{ℕ, _+_, _-_, _*_, _/_, _≤_, _<_}
+use native.Mathlib.Omega.{arith}
+use mathlib.Core.Bool.{Bool, true, false}
+use mathlib.Core.List.{List, []}
+use lib.ListN.{length}
+use lib.Dec.{T, ltb}
+use borrow.Author.Tests.{lt-ltb, le-ltb}
+use Rattle.base.specs.Branch.{if, caseL}
+use Rattle.rules.specs.Book.{Book}
+use Rattle.rules.specs.Reading.{Bytes, Read, got, refused, caseRead, readBook}
+use Rattle.rules.specs.Sheet.{limits}
+use Rattle.rules.specs.Step.{lists, listOf}
+use Rattle.rules.specs.Image.{poolIn}
+use Rattle.rules.specs.Sound.{sound}
+use Rattle.rules.specs.Calls.{rightLength, checked, soundly, TakeOutcome, takeOutcome, takeCall, TakePromise}
+use Rattle.texts.specs.Heads.{Accepted, accepted}
+use Rattle.sheetparts.specs.Tests.{byteAt}
+use Rattle.sheetparts.specs.Ways.{on, off}
+use Rattle.poolcheck.specs.Pools.{sound-frame}
+use Rattle.poolcheck.specs.Books.{right-slots, PoolSound}
+use Rattle.takings.specs.Take.{takeFirst, takeGoing, takeRest, Took, took-by, took-is, Ready}
+
+-- A text that is read as a book.
+pub record IsBook (text : Bytes) : Type 0 where
+  pub book : Book
+  pub ok : Accepted text book
+
+pub is-book : (text : Bytes) (b : Book) (e : ℕ) → readBook text ≡ got b e → IsBook text
+is-book text b e q = record { book = b; ok = accepted text b e q }
+
+-- What take does behind the book's check, for every book that the text is read as.
+abbrev pub TookRest : Bytes → Bytes → ℕ → Bytes → ℕ → Bytes → Bytes → Type 0
+TookRest text pool list out answer after written = (b : Book) → Accepted text b → Took (takeRest b pool list out) answer after written
+
+module _ (text pool : Bytes) (list : ℕ) (out : Bytes) where
+  pub rest-length : false ≡ rightLength (length pool) → TookRest text pool list out 11 pool out
+  unfolding takeRest
+  rest-length e b ok = took-by _ _ _ _ _ (off (rightLength (length pool)) _ _ (sym e)) (took-is 11 pool out)
+
+  module _ (right : true ≡ rightLength (length pool)) where
+    pub rest-list : 2 ≤ list → TookRest text pool list out 12 pool out
+    unfolding takeRest lists
+    rest-list h b ok = took-by _ _ _ _ _ (on (rightLength (length pool)) _ _ (sym right) ∙ off (ltb list 2) _ _ (le-ltb list 2 h)) (took-is 12 pool out)
+
+    module _ (h : list < 2) (r : Bool) (s : PoolSound text pool r) where
+      pub rest-unsound : r ≡ false → TookRest text pool list out 13 pool out
+      unfolding takeRest lists
+      rest-unsound e b ok = took-by _ _ _ _ _ (on (rightLength (length pool)) _ _ (sym right) ∙ on (ltb list 2) _ _ (lt-ltb list 2 h) ∙ off (sound limits b pool) _ _ (sym (s b ok) ∙ e)) (took-is 13 pool out)
+
+      pub rest-going : r ≡ true → (answer : ℕ) (after written : Bytes) → Took (takeGoing pool list out) answer after written → TookRest text pool list out answer after written
+      unfolding takeRest lists
+      rest-going e answer after written t b ok =
+          took-by _ _ _ _ _ (on (rightLength (length pool)) _ _ (sym right) ∙ on (ltb list 2) _ _ (lt-ltb list 2 h) ∙ on (sound limits b pool) _ _ (sym (s b ok) ∙ e)) t
+
+      pub ready : IsBook text → ((i : ℕ) → byteAt pool i < 256) → r ≡ true → Ready pool
+      ready g bytes e =
+          let q = right-slots (length pool) (subst T right tt) in
+          let f = sound-frame (g .book) pool ((length pool - 208) / 2128) (q .0) bytes (subst T (sym (sym (s (g .book) (g .ok)) ∙ e)) tt) in
+          record { slots = (length pool - 208) / 2128; long = q .0; frame = f .0; image = f .1 }
+
+-- ---- the promise
+
+module _ (text pool : Bytes) (list : ℕ) (out : Bytes) where
+  promised : (o : TakeOutcome) → takeCall text pool list out ≡ o → (answer : ℕ) (after written : Bytes) → Took o answer after written → TakePromise text pool list out answer after written
+  promised o e answer after written t = record {
+    answers = t .answers ∙ ap (λ (x : TakeOutcome). x .answer) (sym e);
+    leaves = t .leaves ∙ ap (λ (x : TakeOutcome). x .pool) (sym e);
+    writes = t .writes ∙ ap (λ (x : TakeOutcome). x .out) (sym e);
+  }
+
+  pub take-going : (b : Book) (e : ℕ) → readBook text ≡ got b e → (answer : ℕ) (after written : Bytes) → TookRest text pool list out answer after written → TakePromise text pool list out answer after written
+  unfolding takeCall soundly checked caseRead takeRest takeGoing takeFirst
+  take-going b e q answer after written t =
+      promised (takeRest b pool list out) (ap (λ (r : Read Book). caseRead r (λ n at. takeOutcome n pool out) (λ b _. takeRest b pool list out)) q) answer after written (t b (accepted text b e q))
+
+  pub take-refused : (n at : ℕ) → readBook text ≡ refused n at → TakePromise text pool list out n pool out
+  unfolding takeCall soundly checked caseRead takeRest takeGoing takeFirst
+  take-refused n at q =
+      promised (takeOutcome n pool out) (ap (λ (r : Read Book). caseRead r (λ n at. takeOutcome n pool out) (λ b _. takeRest b pool list out)) q) n pool out (took-is n pool out)

@@ -1,0 +1,269 @@
+-- Take behind the book's check, and that what its loops write is the definition's outcome: the first sheet of a list is copied, its
+-- slot is all zero, and the list goes on behind it.
+use mathlib.Core.Path.{_≡_, refl, sym, ap, ap₂, _∙_, subst}
+use Prim.Native.Nat.{ℕ, zero, suc, _+_, _-_, _*_, _/_, _%_, _≤_, _<_}
+use native.Mathlib.Omega.{arith}
+use mathlib.Core.Bool.{Bool, true, false, _&&_}
+use mathlib.Core.List.{List, [], _∷_, _++_, map, append-assoc}
+use lib.ListN.{length, getD, take, drop, set, replicate, length-append, length-map}
+use lib.Seq.{take-at, drop-at, drop-drop, length-take-le}
+use lib.Dec.{T, ltb, ltb→lt}
+use borrow.Author.Tests.{lt-ltb, le-ltb}
+use Rattle.base.specs.Branch.{if, caseL}
+use Rattle.base.specs.Lists.{All, flat, from}
+use Rattle.base.specs.ListLaws.{all-map, all-getD}
+use Rattle.pools.specs.Count.{from-all}
+use Rattle.rules.specs.Book.{Book}
+use Rattle.rules.specs.Reading.{Bytes, Read, got, refused, caseRead, readBook}
+use Rattle.rules.specs.Sheet.{Sheet, blank, limits}
+use Rattle.rules.specs.Pool.{State, sheetAt, freed, changed}
+use Rattle.rules.specs.Step.{lists, listOf, taken}
+use Rattle.rules.specs.Image.{word, long, padded, poolMark, mostSlots, poolHead, poolBytes, sheetSize, part, listIn, sheetIn, sheetBytes, poolIn}
+use Rattle.rules.specs.Sound.{sound}
+use Rattle.rules.specs.Calls.{rightLength, checked, soundly, TakeOutcome, takeOutcome, takeCall, TakePromise}
+use Rattle.images.specs.Regions.{table-before, table-split, table-set}
+use Rattle.images.specs.Sheets.{blank-zero}
+use Rattle.texts.specs.Heads.{Accepted, accepted}
+use Rattle.sheetparts.specs.Loops.{upTo, up-next, up-end, every-at}
+use Rattle.sheetparts.specs.Tests.{byteAt}
+use Rattle.sheetparts.specs.Ways.{on, off}
+use Rattle.sheetcheck.specs.Regions.{part-length}
+use Rattle.poolparts.specs.Tests.{rowAt, startOf, slotAt, inRange}
+use Rattle.poolcheck.specs.Heads.{Frame, list-row, list-length, head-size}
+use Rattle.poolcheck.specs.Pools.{slots-long, slots-are, sheet-is, again-size, pool-images}
+use Rattle.takings.specs.Moves.{cleared, shifted, shift-list, copied}
+
+-- ---- behind the book's check
+
+-- Of a sound pool.
+unfoldable pub takeFirst : Bytes → ℕ → Bytes → ℕ → List ℕ → TakeOutcome
+takeFirst pool list out i is = if (ltb (length out) (sheetSize limits)) (λ _. takeOutcome 19 pool out) (λ _.
+    takeOutcome 0 (poolBytes limits (taken list (poolIn limits pool) i is)) (sheetBytes limits (sheetAt (poolIn limits pool) i) ++ drop (sheetSize limits) out))
+
+unfoldable pub takeGoing : Bytes → ℕ → Bytes → TakeOutcome
+takeGoing pool list out = caseL (listOf list (poolIn limits pool)) (λ _. takeOutcome 18 pool out) (takeFirst pool list out)
+
+unfoldable pub takeRest : Book → Bytes → ℕ → Bytes → TakeOutcome
+takeRest b pool list out = if (rightLength (length pool)) (λ _. if (ltb list lists)
+    (λ _. if (sound limits b pool) (λ _. takeGoing pool list out) (λ _. takeOutcome 13 pool out)) (λ _. takeOutcome 12 pool out)) (λ _. takeOutcome 11 pool out)
+
+-- An answer and both buffers are those of an outcome.
+pub record Took (o : TakeOutcome) (answer : ℕ) (after written : Bytes) : Type 0 where
+  pub answers : answer ≡ o .answer
+  pub leaves : after ≡ o .pool
+  pub writes : written ≡ o .out
+
+pub took-by : (o q : TakeOutcome) (answer : ℕ) (after written : Bytes) → o ≡ q → Took q answer after written → Took o answer after written
+took-by o q answer after written e t = subst (λ x. Took x answer after written) (sym e) t
+
+pub took-is : (n : ℕ) (p o : Bytes) → Took (takeOutcome n p o) n p o
+unfolding takeOutcome
+took-is n p o = record { answers = refl; leaves = refl; writes = refl }
+
+-- ---- the list
+
+-- Where a list stands, and its count.
+abbrev pub listPlace : ℕ → ℕ
+listPlace list = 80 + 64 * list
+
+abbrev pub countPlace : ℕ → ℕ
+countPlace list = 13 + list
+
+-- A pool in frame that is the image of what it says.
+pub record Ready (p : Bytes) : Type 0 where
+  pub slots : ℕ
+  pub long : length p ≡ 208 + 2128 * slots
+  pub frame : Frame p slots
+  pub image : poolBytes limits (poolIn limits p) ≡ p
+
+module _ (p : Bytes) (r : Ready p) where
+  abbrev s : State
+  s = poolIn limits p
+
+  list-is : (list : ℕ) → list < 2 → listOf list s ≡ rowAt p (listPlace list) (byteAt p (countPlace list))
+  unfolding listOf poolIn
+  list-is zero h = list-row p 80 (byteAt p 13) (omega (arith, r .long)) (r .frame .complete .few)
+  list-is (suc zero) h = list-row p 144 (byteAt p 14) (omega (arith, r .long)) (r .frame .bounded .few)
+  list-is (suc (suc list)) h = absurd (omega arith)
+
+  few : (list : ℕ) → list < 2 → byteAt p (countPlace list) ≤ 64
+  few zero h = r .frame .complete .few
+  few (suc zero) h = r .frame .bounded .few
+  few (suc (suc list)) h = absurd (omega arith)
+
+  inside : (list : ℕ) → list < 2 → T (inRange p (r .slots) (listPlace list) (byteAt p (countPlace list)))
+  inside zero h = r .frame .complete .inside
+  inside (suc zero) h = r .frame .bounded .inside
+  inside (suc (suc list)) h = absurd (omega arith)
+
+  -- The first slot is one of the pool's.
+  pub first-fits : (list : ℕ) → list < 2 → (byteAt p (countPlace list) ≡ 0 → ⊥) → (byteAt p (listPlace list) < r .slots) × (startOf (byteAt p (listPlace list)) + 2128 ≤ length p)
+  unfolding inRange slotAt
+  first-fits list h z =
+      let e : listPlace list + 0 ≡ listPlace list = omega arith in
+      let l = ltb→lt _ (r .slots) (every-at (slotAt p (r .slots) (listPlace list)) (byteAt p (countPlace list)) (inside list h) 0 (omega arith)) in
+      let k : byteAt p (listPlace list) < r .slots = subst (λ a. byteAt p a < r .slots) e l in
+      (k, omega (arith, r .long))
+
+  pub list-fits : (list : ℕ) → list < 2 → listPlace list + 64 ≤ length p
+  list-fits list h = omega (arith, r .long)
+
+  abbrev rest : ℕ → List ℕ
+  rest list = map (λ j. byteAt p (listPlace list + j)) (upTo 1 (byteAt p (countPlace list)))
+
+  empty-is : (list : ℕ) → list < 2 → byteAt p (countPlace list) ≡ 0 → listOf list s ≡ []
+  unfolding rowAt
+  empty-is list h e = list-is list h ∙ ap (map (λ j. byteAt p (listPlace list + j))) (up-end 0 (byteAt p (countPlace list)) (omega arith))
+
+  first-is : (list : ℕ) → list < 2 → (byteAt p (countPlace list) ≡ 0 → ⊥) → listOf list s ≡ byteAt p (listPlace list) ∷ rest list
+  unfolding rowAt
+  first-is list h z =
+      let e : listPlace list + 0 ≡ listPlace list = omega arith in
+      list-is list h ∙ ap (map (λ j. byteAt p (listPlace list + j))) (up-next 0 (byteAt p (countPlace list)) (omega arith)) ∙ ap (λ (k : ℕ). byteAt p k ∷ rest list) e
+
+  rest-long : (list : ℕ) → length (rest list) ≡ byteAt p (countPlace list) - 1
+  unfolding upTo from
+  rest-long list = length-map (from 1 (byteAt p (countPlace list) - 1)) (λ j. byteAt p (listPlace list + j)) ∙ from-long 1 (byteAt p (countPlace list) - 1)
+    where
+      from-long : (a k : ℕ) → length (from a k) ≡ k
+      from-long a zero = refl
+      from-long a (suc k) = ap suc (from-long (suc a) k)
+
+  -- ---- the bytes afterwards
+
+  abbrev slotsNow : Bytes
+  slotsNow = flat (map (sheetBytes limits) (s .slots))
+
+  abbrev Sized : Sheet → Type 0
+  Sized x = length (sheetBytes limits x) ≡ 2128
+
+  module _ (bytes : (i : ℕ) → byteAt p i < 256) where
+    all-sized : (b : Book) → All Sized (s .slots)
+    unfolding upTo
+    all-sized b = subst (All Sized) (sym (slots-are b p (r .slots) (r .long) bytes)) (all-map (λ i. i < r .slots) Sized (λ i. sheetIn limits (part (startOf i) 2128 p))
+        (λ i h. again-size b p (r .slots) (r .long) bytes (part (startOf i) 2128 p) (part-length (startOf i) 2128 p (omega (arith, r .long)))) (from 0 (r .slots - 0))
+        (from-all (λ i. i < r .slots) 0 (r .slots - 0) (λ j _ h. omega arith)))
+
+    -- A slot cleared is that slot freed.
+    cleared-is : (b : Book) (i : ℕ) → i < r .slots → cleared (startOf i) 2128 p ≡ poolHead s ++ flat (map (sheetBytes limits) (freed i (s .slots)))
+    unfolding cleared freed poolBytes limits sheetSize
+    cleared-is b i h =
+        let l : i < length (s .slots) = omega (arith, slots-long b p (r .slots) (r .long) bytes) in
+        let before : Bytes = poolHead s ++ flat (map (sheetBytes limits) (take i (s .slots))) in
+        let here : Bytes = sheetBytes limits (getD (s .slots) i blank) in
+        let behind : Bytes = flat (map (sheetBytes limits) (drop (suc i) (s .slots))) in
+        let n : length before ≡ startOf i = length-append (poolHead s) (flat (map (sheetBytes limits) (take i (s .slots)))) ∙ ap₂ (λ (x y : ℕ). x + y) (head-size limits p (omega (arith, r .long)) bytes)
+        (table-before 2128 Sized (sheetBytes limits) (λ x q. q) (s .slots) i (omega arith) (all-sized b)) in
+        let m : length here ≡ 2128 = all-getD Sized (s .slots) i blank l (all-sized b) in
+        let w : p ≡ before ++ (here ++ behind) = sym (r .image) ∙ ap (λ (x : Bytes). poolHead s ++ x) (table-split (sheetBytes limits) (s .slots) i blank l) ∙ sym (append-assoc (poolHead s) _ (here ++ behind)) in
+        ap₂ (λ (x y : Bytes). x ++ (replicate 2128 0 ++ y)) (ap (take (startOf i)) w ∙ take-at before (here ++ behind) (startOf i) n)
+        (ap (drop (startOf i + 2128)) w ∙ sym (drop-drop 2128 (startOf i) (before ++ (here ++ behind))) ∙ ap (drop 2128) (drop-at before (here ++ behind) (startOf i) n) ∙ drop-at here behind 2128 m)
+        ∙ ap (λ (x : Bytes). before ++ (x ++ behind)) (sym (blank-zero limits)) ∙ append-assoc (poolHead s) _ (sheetBytes limits blank ++ behind)
+        ∙ ap (λ (x : Bytes). poolHead s ++ x) (sym (table-set (sheetBytes limits) (s .slots) i blank l))
+
+-- ---- a head with a shorter list
+
+abbrev front : ℕ → ℕ → ℕ → ℕ → ℕ → ℕ → Bytes
+front sc st n w c b = 77 ∷ 68 ∷ 76 ∷ 1 ∷ 0 ∷ sc ∷ st ∷ 0 ∷ n % 65536 % 256 ∷ n % 65536 / 256 % 256 ∷ n / 65536 % 256 ∷ n / 65536 / 256 % 256 ∷ w ∷ c ∷ b ∷ 0 ∷ []
+
+head-parts : (s : State) (rest : Bytes) → poolHead s ++ rest
+    ≡ front (s .scheduler) (s .strategy) (s .next) (length (s .waiting)) (length (s .complete)) (length (s .bounded)) ++ (padded 64 (s .waiting) ++ (padded 64 (s .complete) ++ (padded 64 (s .bounded) ++ rest)))
+unfolding poolHead poolMark long word mostSlots
+head-parts s rest = simp append-assoc
+
+padded-long : (xs : List ℕ) → length xs ≤ 64 → length (padded 64 xs) ≡ 64
+padded-long xs h = Rattle.images.specs.Regions.padded-length 64 xs h
+
+-- The list shifted and its count lowered, in the head before any slots.
+head-taken : (list : ℕ) (s : State) (slots : List Sheet) (i : ℕ) (is : List ℕ) (rest : Bytes) → list < 2 → listOf list s ≡ i ∷ is
+    → length (s .waiting) ≤ 64 → length (s .complete) ≤ 64 → length (s .bounded) ≤ 64
+    → set (shifted (listPlace list) (poolHead s ++ rest)) (countPlace list) (length is) ≡ poolHead (taken list s i is) ++ rest
+unfolding listOf taken changed
+head-taken zero s slots i is rest h e w c b =
+    let f = front (s .scheduler) (s .strategy) (s .next) (length (s .waiting)) (length (s .complete)) (length (s .bounded)) in
+    let n : length is < 64 = omega (arith, ap length e) in
+    let q : poolHead s ++ rest ≡ (f ++ padded 64 (s .waiting)) ++ (padded 64 (i ∷ is) ++ (padded 64 (s .bounded) ++ rest)) =
+    head-parts s rest ∙ ap (λ (l : List ℕ). f ++ (padded 64 (s .waiting) ++ (padded 64 l ++ (padded 64 (s .bounded) ++ rest)))) e ∙ sym (append-assoc f (padded 64 (s .waiting)) _) in
+    ap (λ (l : Bytes). set (shifted 80 l) 13 (length is)) q
+    ∙ ap (λ (l : Bytes). set l 13 (length is)) (shift-list (f ++ padded 64 (s .waiting)) (padded 64 (s .bounded) ++ rest) i is 80 (omega (arith, padded-long (s .waiting) w)) n)
+    ∙ append-assoc (front (s .scheduler) (s .strategy) (s .next) (length (s .waiting)) (length is) (length (s .bounded))) (padded 64 (s .waiting)) _
+    ∙ sym (head-parts (taken zero s i is) rest)
+head-taken (suc zero) s slots i is rest h e w c b =
+    let f = front (s .scheduler) (s .strategy) (s .next) (length (s .waiting)) (length (s .complete)) (length (s .bounded)) in
+    let n : length is < 64 = omega (arith, ap length e) in
+    let m : length (padded 64 (s .waiting) ++ padded 64 (s .complete)) ≡ 128 = length-append (padded 64 (s .waiting)) (padded 64 (s .complete)) ∙ omega (arith, padded-long (s .waiting) w, padded-long (s .complete) c) in
+    let q : poolHead s ++ rest ≡ (f ++ (padded 64 (s .waiting) ++ padded 64 (s .complete))) ++ (padded 64 (i ∷ is) ++ rest) =
+    head-parts s rest ∙ ap (λ (l : List ℕ). f ++ (padded 64 (s .waiting) ++ (padded 64 (s .complete) ++ (padded 64 l ++ rest)))) e
+    ∙ ap (λ (l : Bytes). f ++ l) (sym (append-assoc (padded 64 (s .waiting)) (padded 64 (s .complete)) _)) ∙ sym (append-assoc f (padded 64 (s .waiting) ++ padded 64 (s .complete)) _) in
+    ap (λ (l : Bytes). set (shifted 144 l) 14 (length is)) q
+    ∙ ap (λ (l : Bytes). set l 14 (length is)) (shift-list (f ++ (padded 64 (s .waiting) ++ padded 64 (s .complete))) rest i is 144 (omega (arith, m)) n)
+    ∙ append-assoc (front (s .scheduler) (s .strategy) (s .next) (length (s .waiting)) (length (s .complete)) (length is)) (padded 64 (s .waiting) ++ padded 64 (s .complete)) _
+    ∙ ap (λ (l : Bytes). front (s .scheduler) (s .strategy) (s .next) (length (s .waiting)) (length (s .complete)) (length is) ++ l) (append-assoc (padded 64 (s .waiting)) (padded 64 (s .complete)) _)
+    ∙ sym (head-parts (taken (suc zero) s i is) rest)
+head-taken (suc (suc list)) s slots i is rest h e w c b = absurd (omega arith)
+
+-- ---- the ways out
+
+module _ (p : Bytes) (r : Ready p) (list : ℕ) (out : Bytes) (h : list < 2) where
+  abbrev now : State
+  now = poolIn limits p
+
+  pub take-empty : byteAt p (countPlace list) ≡ 0 → Took (takeGoing p list out) 18 p out
+  unfolding takeGoing caseL
+  take-empty e = took-by _ (takeOutcome 18 p out) _ _ _ (ap (λ (l : List ℕ). caseL l (λ _. takeOutcome 18 p out) (takeFirst p list out)) (empty-is p r list h e)) (took-is 18 p out)
+
+  module _ (z : byteAt p (countPlace list) ≡ 0 → ⊥) where
+    abbrev i : ℕ
+    i = byteAt p (listPlace list)
+
+    first : takeGoing p list out ≡ takeFirst p list out i (rest p r list)
+    unfolding takeGoing caseL
+    first = ap (λ (l : List ℕ). caseL l (λ _. takeOutcome 18 p out) (takeFirst p list out)) (first-is p r list h z)
+
+    pub take-short : length out < 2128 → Took (takeGoing p list out) 19 p out
+    unfolding takeFirst limits sheetSize
+    take-short l = took-by _ (takeOutcome 19 p out) _ _ _ (first ∙ on (ltb (length out) 2128) _ _ (lt-ltb (length out) 2128 l)) (took-is 19 p out)
+
+    counts-fit : (length (now .waiting) ≤ 64) × ((length (now .complete) ≤ 64) × (length (now .bounded) ≤ 64))
+    unfolding poolIn
+    counts-fit = (
+      omega (arith, list-length p 16 (byteAt p 12) (omega (arith, r .long))),
+      (omega (arith, list-length p 80 (byteAt p 13) (omega (arith, r .long))), omega (arith, list-length p 144 (byteAt p 14) (omega (arith, r .long)))),
+    )
+
+    taken-slots : taken list now i (rest p r list) .slots ≡ freed i (now .slots)
+    unfolding taken changed
+    taken-slots = go list
+      where
+        go : (l : ℕ) → taken l now i (rest p r list) .slots ≡ freed i (now .slots)
+        go zero = refl
+        go (suc l) = refl
+
+    pool-after : (b : Book) → ((j : ℕ) → byteAt p j < 256) → set (shifted (listPlace list) (cleared (startOf i) 2128 p)) (countPlace list) (byteAt p (countPlace list) - 1)
+        ≡ poolBytes limits (taken list now i (rest p r list))
+    unfolding poolBytes
+    pool-after b bytes =
+        ap₂ (λ (l : Bytes) (n : ℕ). set (shifted (listPlace list) l) (countPlace list) n) (cleared-is p r bytes b i (first-fits p r list h z .0)) (sym (rest-long p r list))
+        ∙ head-taken list now (now .slots) i (rest p r list) _ h (first-is p r list h z) (counts-fit .0) (counts-fit .1 .0) (counts-fit .1 .1)
+        ∙ ap (λ (xs : List Sheet). poolHead (taken list now i (rest p r list)) ++ flat (map (sheetBytes limits) xs)) (sym taken-slots)
+
+    sheet-after : (b : Book) → ((j : ℕ) → byteAt p j < 256) → part (startOf i) 2128 p ≡ sheetBytes limits (sheetAt now i)
+    sheet-after b bytes =
+        let l = first-fits p r list h z .0 in
+        sym (pool-images b p (r .slots) (r .long) bytes (r .image) .1 i l) ∙ ap (sheetBytes limits) (sym (sheet-is b p (r .slots) (r .long) bytes i l))
+
+    pub take-done : (b : Book) → ((j : ℕ) → byteAt p j < 256) → 2128 ≤ length out → (after written : Bytes)
+        → after ≡ set (shifted (listPlace list) (cleared (startOf i) 2128 p)) (countPlace list) (byteAt p (countPlace list) - 1) → written ≡ copied p (startOf i) 2128 out
+        → Took (takeGoing p list out) 0 after written
+    unfolding takeFirst takeOutcome limits sheetSize copied
+    take-done b bytes l after written e q =
+        let o = first ∙ off (ltb (length out) 2128) _ _ (le-ltb (length out) 2128 l) in
+        record {
+          answers = ap (λ (x : TakeOutcome). x .answer) (sym o);
+          leaves = e ∙ pool-after b bytes ∙ ap (λ (x : TakeOutcome). x .pool) (sym o);
+          writes = q ∙ ap (λ (x : Bytes). x ++ drop 2128 out) (sheet-after b bytes) ∙ ap (λ (x : TakeOutcome). x .out) (sym o);
+        }
+
+-- Any book serves where the laws of a pool's bytes ask for one.
+pub anyBook : Book
+anyBook = record { names = record { constants = 0; functions = []; relations = []; constantWitnesses = 0; functionWitnesses = [] }; sequents = [] }
