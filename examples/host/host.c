@@ -1,5 +1,6 @@
 /* A host in C: opens a pool for a book, runs with a budget, saves the pool to a file, loads it, goes on, and takes the
- * sheets. The book is document 01's listing example; usage: host FILE, where FILE is where the pool is saved. */
+ * sheets. The book is document 01's listing example; usage: host FILE, where FILE is where the pool is saved.
+ * It compiles, but cannot be linked until the archive has chase_step and chase_run. */
 #include <stdio.h>
 #include <stdlib.h>
 #include <string.h>
