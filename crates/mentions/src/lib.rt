@@ -1,20 +1,17 @@
-// mentions: is a variable in the literals that follow one another in a text, nested terms included?
-// So an evaluator knows which existentials get "v = v" (01, "The rule book"). Terms are walked flat, as in `walk`.
-use counts::relation_arity;
-use walk::literal_end;
-use walk::own_terms;
+// mentions: is a variable in a literal, or in one of several that follow one another? A loop over the nodes of their text.
+use skips::skip_literal;
 use words::num16;
-use words::rest;
 ghost use mathlib.Core.Path.{_≡_};
-ghost use Prim.Native.Nat.{_+_, _≤_};
+ghost use Prim.Native.Nat.{_+_, _-_, _*_, _/_, _≤_, _<_};
 ghost use lib.ListN.{length};
 ghost use Rattle.texts.specs.Names.{namesIn};
-ghost use Rattle.mentions.specs.Mentions.{isVariable, InTerms, InOne, InRow};
+ghost use Rattle.mentions.specs.Nodes.{nodeIs, nodesHave, Mentions};
+ghost use Rattle.mentions.specs.Rows.{MentionsOne};
 
-// Does this variable stand at a place?
-fn is_variable(text: &[u8], v: u64, at: usize) -> bool
+// Is the node at a place the variable v?
+fn node_is(text: &[u8], at: usize, v: u64) -> bool
     requires { ⌜ at + 4 ≤ length (now text) ⌝ }
-    ensures { λ r. ⌜ r ≡ isVariable (now (text .entry)) v at ⌝ }
+    ensures { λ r. ⌜ r ≡ nodeIs (now (text .entry)) at v ⌝ }
 {
     if num16(text, at) == 0 {
         return num16(text, at + 2) == v;
@@ -22,54 +19,61 @@ fn is_variable(text: &[u8], v: u64, at: usize) -> bool
     false
 }
 
-// Is the variable in so many terms?
-pub fn in_terms(book: &[u8], text: &[u8], v: u64, count: u64, at: usize) -> bool
-    ensures { λ r. ⌜ InTerms (namesIn (now (book .entry))) (now (text .entry)) v count at r ⌝ }
+// Is one of k nodes from a place on?
+fn nodes_have(text: &[u8], at: usize, k: usize, v: u64) -> bool
+    requires { ⌜ at + 4 * k ≤ length (now text) ⌝ }
+    ensures { λ r. ⌜ r ≡ nodesHave (now (text .entry)) at k v ⌝ }
 {
     let mut p = at;
-    let mut left = count;
+    let mut left = k;
     while left > 0 {
-        if ((rest(text, p) / 4) as u64) < left {
-            return false;
-        }
-        if is_variable(text, v, p) {
+        if node_is(text, p, v) {
             return true;
         }
-        left = left - 1 + own_terms(book, text, p);
         p += 4;
+        left -= 1;
     }
     false
 }
 
-pub fn in_literal(book: &[u8], text: &[u8], v: u64, at: usize) -> bool
-    ensures { λ r. ⌜ InOne (namesIn (now (book .entry))) (now (text .entry)) v at r ⌝ }
+// Is one of the nodes from a place to a place?
+fn span_has(text: &[u8], b: usize, e: usize, v: u64) -> bool
+    requires { ⌜ e ≤ length (now text) ⌝ }
+    ensures { λ r. ⌜ r ≡ nodesHave (now (text .entry)) b ((e - b) / 4) v ⌝ }
 {
-    if rest(text, at) < 4 {
+    if e < b {
         return false;
     }
-    if num16(text, at) == 0 {
-        return in_terms(
-            book,
-            text,
-            v,
-            relation_arity(book, num16(text, at + 2)),
-            at + 4,
-        );
-    }
-    in_terms(book, text, v, 2, at + 2)
+    nodes_have(text, b, (e - b) / 4, v)
 }
 
-// Is the variable in so many literals?
-pub fn in_literals(book: &[u8], text: &[u8], v: u64, count: u64, at: usize) -> bool
-    ensures { λ r. ⌜ InRow (namesIn (now (book .entry))) (now (text .entry)) v count at r ⌝ }
+// Is the variable in the literal at a place?
+pub fn literal_mentions(book: &[u8], text: &[u8], at: usize, v: u64) -> bool
+    requires { ⌜ (at ≤ length (now text)) × (length (now text) ≤ 32768) ⌝ }
+    ensures { λ r. ⌜ Mentions (namesIn (now (book .entry))) (now (text .entry)) v at r ⌝ }
+{
+    if text.len() - at < 4 {
+        return false;
+    }
+    let e = skip_literal(book, text, at);
+    if num16(text, at) == 0 {
+        return span_has(text, at + 4, e, v);
+    }
+    span_has(text, at + 2, e, v)
+}
+
+// Is it in one of n literals from a place on?
+pub fn mentioned(book: &[u8], text: &[u8], at: usize, n: u64, v: u64) -> bool
+    requires { ⌜ (at ≤ length (now text)) × (length (now text) ≤ 32768) ⌝ }
+    ensures { λ r. ⌜ MentionsOne (namesIn (now (book .entry))) (now (text .entry)) v at n r ⌝ }
 {
     let mut p = at;
     let mut i = 0;
-    while i < count {
-        if in_literal(book, text, v, p) {
+    while i < n {
+        if literal_mentions(book, text, p, v) {
             return true;
         }
-        p = literal_end(book, text, p);
+        p = skip_literal(book, text, p);
         i += 1;
     }
     false
