@@ -120,7 +120,7 @@ module _ (lim : Limits) (d : Names) (g : SmallNames d) (m : Model) (n : Neat lim
   unfolding factDeclared
   fact-small = all-all (λ (f : Fact). T (factDeclared d f)) _ (λ f t. arity-small (d .relations) (f .relation) (length (f .args)) (g .fewRelations) (g .relationArities) t) (m .facts) (n .listed .factsDeclared)
 
-  storable-model : StorableModel lim m
+  pub storable-model : StorableModel lim m
   storable-model = record {
     created = n .small .fewCreated;
     keys = n .small .fewKeys;
@@ -130,7 +130,7 @@ module _ (lim : Limits) (d : Names) (g : SmallNames d) (m : Model) (n : Neat lim
     factArgs = all-all (λ (f : Fact). (length (f .args) ≤ 4) × (f .relation < 64)) FewFact (λ f s. s .0) (m .facts) fact-small;
   }
 
-  byte-model : lim .elements ≤ 256 → ByteModel m
+  pub byte-model : lim .elements ≤ 256 → ByteModel m
   byte-model l = record {
     keys = all-both (λ (x : Entry). SmallSymbol (x .0 .kind) (x .0 .symbol) (length (x .0 .args))) (λ (x : Entry). All (Yielded (m .keys)) (x .0 .args) × (x .1 < m .created)) ByteKey
         (λ x s q. let a = s .kinds in let b = s .low in let c = q .1 in let z = n .small .fewCreated in

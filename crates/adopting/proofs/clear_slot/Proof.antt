@@ -1,0 +1,98 @@
+use native.Mathlib.Omega.{arith}
+use borrow.Author.Needs.{needs}
+use borrow.Rule.Slice.PartMut.{mid-len}
+use mathlib.Core.Path.{_≡_, ap, _∙_}
+use Prim.Native.Nat.{_+_, _-_, _*_, _≤_}
+use lib.ListN.{length, take, drop, replicate}
+use Rattle.octets.specs.Patch.{patched, patched-part}
+use Rattle.adopting.proofs.clear_slot.Statement.{statement}
+use Rattle.adopting.proofs.clear_slot.Tie as tie
+use Rattle.adopting.proofs.clear_slot.Reads as reads
+use Rattle.adopting.proofs.clear_slot.Lts as lts
+use Rattle.openings.proofs.clear.Reads as clear-reads
+
+-- src/lib.rt:20:21
+mul-size : tie.Need-mul-size
+mul-size c = search needs
+
+-- src/lib.rt:20:16
+add-size : tie.Need-add-size
+add-size c = search needs
+
+-- src/lib.rt:20:30
+mul-size-2 : tie.Need-mul-size-2
+mul-size-2 c = search needs
+
+-- src/lib.rt:20:16
+add-size-2 : tie.Need-add-size-2
+add-size-2 c = search needs
+
+-- src/lib.rt:20:16
+add-size-3 : tie.Need-add-size-3
+add-size-3 c = search needs
+
+-- src/lib.rt:21:19
+mul-a : tie.Need-mul-a
+mul-a c = search needs
+
+-- src/lib.rt:21:13
+add-a : tie.Need-add-a
+add-a c = search needs
+
+-- src/lib.rt:22:13
+add-e : tie.Need-add-e
+add-e c = search needs
+
+-- src/lib.rt:23:11
+sub-clear : tie.Need-sub-clear
+sub-clear c = search needs
+
+-- src/lib.rt:23:11
+part-clear-start : tie.Need-part-clear-start
+part-clear-start c = search needs
+
+-- src/lib.rt:23:11
+part-clear-end : tie.Need-part-clear-end
+part-clear-end c = search needs
+
+-- src/lib.rt:23:5
+clear-requires : tie.Need-clear-requires
+clear-requires c κs = search needs
+
+-- src/lib.rt:16:1
+same-length : tie.Need-same-length
+same-length c = search needs
+
+-- src/lib.rt:16:1
+returns : tie.Need-returns
+returns c =
+    let f = c .before .before in
+    let s = c .before .before .before .before .before in
+    let a = s .args in
+    let size = 16 + 8 * a .lk + 8 * a .lf + a .le in
+    let at = 208 + size * a .i in
+    let k = at + size - at in
+    let ys = f .clear .last .0 in
+    let m : length (take k (drop at (a .pool .now))) ≡ k = mid-len at (at + size) (a .pool .now) (omega arith) in
+    let n : k ≡ size = omega arith in
+    let z : length ys ≡ k = c .before .pool .given .0 ∙ m in
+    patched-part at k ys (a .pool .now) z ∙ ap (λ l. patched at l (a .pool .now)) (f .clear .ensures ∙ ap (λ j. replicate j 0) (m ∙ n))
+
+pub clear-slot-spec : {M : Type 1} → statement M
+clear-slot-spec =
+    tie.close
+    (tie.spec
+    mul-size
+    add-size
+    mul-size-2
+    add-size-2
+    add-size-3
+    mul-a
+    add-a
+    add-e
+    sub-clear
+    part-clear-start
+    part-clear-end
+    clear-requires
+    same-length
+    returns)

@@ -1,0 +1,31 @@
+use borrow.Author.Needs.{needs}
+use Rattle.sheets.specs.Form.{limitsOf}
+use Rattle.adopting.specs.Slots.{base-freed}
+use Rattle.adopting.proofs.free_base.Statement.{statement}
+use Rattle.adopting.proofs.free_base.Tie as tie
+use Rattle.adopting.proofs.free_base.Reads as reads
+use Rattle.adopting.proofs.free_base.Lts as lts
+use Rattle.adopting.proofs.clear_slot.Reads as clear-slot-reads
+use Rattle.lists.proofs.forget.Reads as forget-reads
+
+-- src/lib.rt:31:5
+clear-slot-requires : tie.Need-clear-slot-requires
+clear-slot-requires c κs = search needs
+
+-- src/lib.rt:32:5
+forget-requires : tie.Need-forget-requires
+forget-requires c κs = search needs
+
+-- src/lib.rt:27:1
+same-length : tie.Need-same-length
+same-length c = search needs
+
+-- src/lib.rt:27:1
+returns : tie.Need-returns
+returns c =
+    let s = c .before .before .before .before .before .before .before .before .before in
+    let a = s .args in
+    base-freed (limitsOf (a .le) (a .lk) (a .lf)) (a .i) (a .pool .now) _ _ (c .before .before .before .before .before .before .clear-slot .ensures) (c .before .before .forget .ensures)
+
+pub free-base-spec : {M : Type 1} → statement M
+free-base-spec = tie.close (tie.spec clear-slot-requires forget-requires same-length returns)

@@ -1,0 +1,62 @@
+use borrow.Author.Needs.{needs}
+use lib.ListN.{length-set}
+use Rattle.sheets.specs.Form.{limitsOf}
+use Rattle.adopting.specs.Slots.{numbered-formed, child-adopted}
+use Rattle.adopting.proofs.place_child.Statement.{statement}
+use Rattle.adopting.proofs.place_child.Tie as tie
+use Rattle.adopting.proofs.place_child.Reads as reads
+use Rattle.adopting.proofs.place_child.Lts as lts
+use Rattle.lists.proofs.join.Reads as join-reads
+use Rattle.lists.proofs.next_number.Reads as next-number-reads
+use Rattle.slots.proofs.put_sheet.Reads as put-sheet-reads
+
+-- src/lib.rt:40:12
+next-number-requires : tie.Need-next-number-requires
+next-number-requires c κs = search needs
+
+-- src/lib.rt:40:5
+slice-write-w : tie.Need-slice-write-w
+slice-write-w c = search needs
+
+-- src/lib.rt:41:5
+slice-write-w-2 : tie.Need-slice-write-w-2
+slice-write-w-2 c = simp length-set (search needs)
+
+-- src/lib.rt:42:5
+put-sheet-requires : tie.Need-put-sheet-requires
+put-sheet-requires c κs =
+    let s = c .before .before .before .before .before .before in
+    let a = s .args in
+    (numbered-formed (limitsOf (a .le) (a .lk) (a .lf)) (a .w .now) _ (a .place) (s .pre .0), s .pre .1)
+
+-- src/lib.rt:43:5
+join-requires : tie.Need-join-requires
+join-requires c κs = search needs
+
+-- src/lib.rt:36:1
+same-length : tie.Need-same-length
+same-length c = search needs
+
+-- src/lib.rt:36:1
+same-length-2 : tie.Need-same-length-2
+same-length-2 c = search needs
+
+-- src/lib.rt:36:1
+returns : tie.Need-returns
+returns c =
+    let s = c .before .before .before .before .before .before .before .before .before .before .before .before .before in
+    let a = s .args in
+    child-adopted (limitsOf (a .le) (a .lk) (a .lf)) (a .i) (a .cut) (a .place) _ (a .w .now) (a .pool .now) _ _ (c .before .before .before .before .before .before .before .before .before .next-number .ensures .0) (c .before .before .before .before .before .before .put-sheet .ensures) (c .before .before .join .ensures)
+
+pub place-child-spec : {M : Type 1} → statement M
+place-child-spec =
+    tie.close
+    (tie.spec
+    next-number-requires
+    slice-write-w
+    slice-write-w-2
+    put-sheet-requires
+    join-requires
+    same-length
+    same-length-2
+    returns)

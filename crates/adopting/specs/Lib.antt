@@ -1,0 +1,2 @@
+-- What a step writes into a pool.
+pub mod Slots

@@ -1,0 +1,2 @@
+-- What fires on a sheet's working form.
+pub mod Basis

@@ -1,0 +1,3 @@
+-- The calls step and run.
+pub mod Verdict
+pub mod Runs
