@@ -1,9 +1,11 @@
 //! The comparisons: books against a peer step by step (`published`), the calls against a second
-//! engine or by themselves (`judge`, `scenarios`), and recorded answers (`recorded`).
+//! engine or by themselves (`judge`, `scenarios`), the exported calls as such an engine (`pipes`),
+//! and recorded answers (`recorded`).
 
 pub mod corners;
 pub mod judge;
 pub mod peer;
+pub mod pipes;
 pub mod promises;
 pub mod published;
 pub mod recorded;
@@ -21,14 +23,25 @@ pub fn judge_calls(
     faults_each: u64,
     other: Option<&mut dyn Calls>,
 ) -> Result<(Counts, u64), String> {
+    judge_share(seed, count, faults_each, (0, 1), other)
+}
+
+/// One share of what `judge_calls` runs: from `first` on every so manieth as there are shares.
+pub fn judge_share(
+    seed: u64,
+    count: u64,
+    faults_each: u64,
+    (first, shares): (u64, u64),
+    other: Option<&mut dyn Calls>,
+) -> Result<(Counts, u64), String> {
     let mut judge = Judge::new(other);
-    for index in 0..count {
+    for index in (first..count).step_by(shares as usize) {
         let mut rng = Rng::new(seed ^ 0x5e55, index);
         scenarios::scenario(&mut judge, &mut rng)
             .map_err(|text| format!("seed {seed} scenario {index}: {text}"))?;
     }
     for (kind, target) in faults::targets().into_iter().enumerate() {
-        for index in 0..faults_each {
+        for index in (first..faults_each).step_by(shares as usize) {
             let mut rng = Rng::new(seed ^ 0xfa17, index * 1_000 + kind as u64);
             scenarios::book_fault(&mut judge, &mut rng, target)
                 .map_err(|text| format!("seed {seed} fault {target:?} {index}: {text}"))?;

@@ -5,7 +5,8 @@ use crate::judge::Calls;
 use reference::calls::{open_with, run_with, step_with, take_with};
 use reference::check::check;
 use reference::child::Bound;
-use reference::listing::listing;
+use reference::listing::{listing, split, LISTING_BUDGET, LISTING_SLOTS};
+use reference::plain::PlainPool;
 use reference::pool::View;
 use reference::sound::broken;
 use reference::watch::Silent;
@@ -72,7 +73,7 @@ fn number<T: std::str::FromStr>(text: &str) -> T {
 
 /// Replays every file; answers how many records were held against the engine.
 pub fn replay(folder: &Path, engine: &mut dyn Calls) -> Result<[usize; 4], String> {
-    let listings = replay_listings(&read(folder, "listings.txt")?)?;
+    let listings = replay_listings(&read(folder, "listings.txt")?, engine)?;
     let refusals = replay_refusals(&read(folder, "refusals.txt")?, engine)?;
     let pools = replay_pools(&read(folder, "pools.txt")?, engine)?;
     let unsound = replay_unsound(&read(folder, "unsound.txt")?, engine)?;
@@ -80,21 +81,39 @@ pub fn replay(folder: &Path, engine: &mut dyn Calls) -> Result<[usize; 4], Strin
 }
 
 /// `input HEX`, then `| ` before each line of the listing.
-fn replay_listings(text: &str) -> Result<usize, String> {
+fn replay_listings(text: &str, engine: &mut dyn Calls) -> Result<usize, String> {
     let mut count = 0;
     for case in text.split("\ninput ").skip(1) {
         let (input, rest) = case.split_once('\n').ok_or("a listing without lines")?;
         let lines = rest.lines().filter_map(|line| line.strip_prefix("| "));
         let recorded: String = lines.map(|line| format!("{line}\n")).collect();
-        let found = listing(&unhex(input));
-        if recorded.is_empty() || found != recorded {
-            return Err(format!(
-                "listing {count}: recorded\n{recorded}found\n{found}input {input}"
-            ));
+        for found in [listing(&unhex(input)), listing_by(engine, &unhex(input))] {
+            if recorded.is_empty() || found != recorded {
+                return Err(format!(
+                    "listing {count}: recorded\n{recorded}found\n{found}input {input}"
+                ));
+            }
         }
         count += 1;
     }
     Ok(count)
+}
+
+/// What the listing program prints, its calls made by an engine.
+fn listing_by(engine: &mut dyn Calls, input: &[u8]) -> String {
+    let refused = |number: u32| format!("refused {number}\n");
+    let Some((settings, book)) = split(input) else { return refused(2) };
+    let mut pool = vec![0; LIMITS.pool(LISTING_SLOTS)];
+    let opened = engine.open(book, &mut pool, settings.scheduler, settings.strategy);
+    if opened != 0 || settings.fourth != 0 {
+        return refused(if opened != 0 { opened } else { 12 });
+    }
+    let bound = Bound { kind: settings.bound, number: settings.number };
+    let (stop, steps) = engine.run(book, &mut pool, bound, LISTING_BUDGET);
+    if (1..=13).contains(&stop) {
+        return refused(stop);
+    }
+    PlainPool::read(&pool, &LIMITS).listing(stop, steps)
 }
 
 /// `refusal NUMBER PLACE HEX [pad COUNT BYTE]`: a book, its refusal and the place of the fault.
