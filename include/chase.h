@@ -2,8 +2,7 @@
  *
  * Four calls on numbers and byte buffers. Each accepts all bytes and numbers, ends, and does its work or answers the
  * one refusal number that fits; a refused call changes no byte of any buffer. What each call does is fixed by
- * document 01; the bytes of the pool and of a sheet stand in docs/FORMAT.md. So far the archive has chase_open and
- * chase_take.
+ * document 01; the bytes of the pool and of a sheet stand in docs/FORMAT.md.
  *
  * What the host owes, and nothing else: each pointer is valid for its length (NULL with length 0 is fine), buffers
  * of one call do not overlap, none is longer than 2^63 - 1 bytes, and no other thread touches them during the call.

@@ -1,6 +1,6 @@
 //! The comparisons: books against a peer step by step (`published`), the calls against a second
 //! engine or by themselves (`judge`, `scenarios`), the exported calls as such an engine (`pipes`),
-//! and recorded answers (`recorded`).
+//! recorded answers (`recorded`), and calls written down for a program that makes them again (`tape`).
 
 pub mod corners;
 pub mod judge;
@@ -10,6 +10,7 @@ pub mod promises;
 pub mod published;
 pub mod recorded;
 pub mod scenarios;
+pub mod tape;
 
 use generator::counts::{Counts, EVENTS};
 use generator::faults;

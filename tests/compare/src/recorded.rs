@@ -129,15 +129,28 @@ fn replay_refusals(text: &str, engine: &mut dyn Calls) -> Result<usize, String> 
         if found.as_ref().err() != Some(&(wanted, place)) {
             return Err(format!("refusals.txt line {line}: found {:?}", found.err()));
         }
-        let mut pool = vec![7; LIMITS.pool(1)];
-        let answer = engine.open(&book, &mut pool, 0, 0);
-        let untouched = pool.iter().all(|&byte| byte == 7);
-        if answer != wanted || !untouched {
-            return Err(format!("refusals.txt line {line}: open answers {answer}"));
-        }
+        refused(&book, wanted, engine)
+            .map_err(|text| format!("refusals.txt line {line}: {text}"))?;
         count += 1;
     }
     Ok(count)
+}
+
+/// Is a book refused by every call, with its number, and no lent byte touched?
+fn refused(book: &[u8], wanted: u32, engine: &mut dyn Calls) -> Result<(), String> {
+    let (bound, mut pool, mut out) =
+        (Bound { kind: 0, number: 0 }, vec![7; LIMITS.pool(1)], [9; 3]);
+    let (stop, steps) = engine.run(book, &mut pool, bound, 1);
+    let answers = [
+        engine.open(book, &mut pool, 0, 0),
+        engine.step(book, &mut pool, bound),
+        stop,
+        engine.take(book, &mut pool, 0, &mut out),
+    ];
+    if answers != [wanted; 4] || steps != 0 || out != [9; 3] || pool.iter().any(|&byte| byte != 7) {
+        return Err(format!("open, step, run and take answer {answers:?}"));
+    }
+    Ok(())
 }
 
 /// Scripts of calls: `book HEX`, `room BYTES` (a pool of zeros), then calls with their answers and
@@ -246,9 +259,32 @@ fn unsound_case(
     if answer != (13, 0) || lent != pool {
         return Err(format!("unsound {name}: run answers {answer:?}"));
     }
+    let mut out = vec![9; LIMITS.sheet()];
+    let answers = [
+        engine.step(book, &mut lent, bound),
+        engine.take(book, &mut lent, 0, &mut out),
+        engine.take(book, &mut lent, 1, &mut out),
+    ];
+    if answers != [13; 3] || lent != pool || out.iter().any(|&byte| byte != 9) {
+        return Err(format!("unsound {name}: step and takes answer {answers:?}"));
+    }
     let answer = engine.run(book, &mut sound.to_vec(), bound, 0);
     if answer != (0, 0) {
         return Err(format!("unsound {name}, made sound: run answers {answer:?}"));
+    }
+    taken_alike(book, sound, engine).map_err(|text| format!("unsound {name}, made sound: {text}"))
+}
+
+/// Does an engine take from a sound pool what the reference does?
+fn taken_alike(book: &[u8], sound: &[u8], engine: &mut dyn Calls) -> Result<(), String> {
+    for list in [0, 1] {
+        let mut pools = [sound.to_vec(), sound.to_vec()];
+        let mut outs = [vec![9; LIMITS.sheet()], vec![9; LIMITS.sheet()]];
+        let wanted = Reference.take(book, &mut pools[0], list, &mut outs[0]);
+        let answer = engine.take(book, &mut pools[1], list, &mut outs[1]);
+        if answer != wanted || pools[0] != pools[1] || outs[0] != outs[1] {
+            return Err(format!("take from list {list} answers {answer}, not {wanted}"));
+        }
     }
     Ok(())
 }
