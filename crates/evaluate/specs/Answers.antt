@@ -1,6 +1,7 @@
 -- What the evaluator answers: nothing, or a sequent's number and where its text stands; the choice is left in the environment.
-use mathlib.Core.Path.{_≡_}
-use Prim.Native.Nat.{ℕ, _≤_}
+use mathlib.Core.Path.{_≡_, sym, ap, subst}
+use Prim.Native.Nat.{ℕ, _+_, _≤_}
+use native.Mathlib.Omega.{arith}
 use mathlib.Core.Option.{Option, none, some}
 use mathlib.Core.List.{List, map}
 use lib.ListN.{length, take}
@@ -13,9 +14,22 @@ use Rattle.rules.specs.Pool.{strategyOf}
 use Rattle.texts.specs.Reads.{Follow}
 use Rattle.texts.specs.Names.{namesIn}
 use Rattle.texts.specs.Text.{SequentText}
+use Rattle.texts.specs.Parts.{part, part-length}
+use Rattle.skips.specs.Rest.{Skips}
 use Rattle.firing.specs.Answers.{Sees, Rule}
 use Rattle.evaluate.specs.declared.Fired.{Fired}
 use Rattle.evaluate.specs.declared.Fired.the-variants.{Nothing, At}
+
+-- A part of the book from a place on: it is a sequent's whole text, where one stands there.
+pub record Handed (book : Bytes) (at : ℕ) (q : Bytes) : Type 0 where
+  pub within : at + length q ≤ length book
+  pub is : q ≡ part at (at + length q) book
+  pub skips : Skips (SequentText (namesIn book) book) (length book) at (at + length q)
+
+pub handed : (book : Bytes) (at e : ℕ) → at ≤ e → e ≤ length book → Skips (SequentText (namesIn book) book) (length book) at e → Handed book at (part at e book)
+handed book at e h l s =
+    let n : at + length (part at e book) ≡ e = omega (arith, part-length at e book l) in
+    record { within = omega arith; is = ap (λ k. part at k book) (sym n); skips = subst (λ k. Skips (SequentText (namesIn book) book) (length book) at k) (sym n) s }
 
 -- The sequent i that stands from a to e of the book fires, at the elements that stand first in the environment.
 pub record FiresAt (book : Bytes) (o : Option Firing) (env : List ℕ) (i a e : ℕ) : Type 0 where

@@ -1,5 +1,5 @@
-// evaluate: the first sequent in the order of a strategy, and the first choice, that fires. Each sequent is handed on as the part
-// of the book that holds it. Linear starts at the first sequent; Fair starts at the sheet's place and wraps.
+// evaluate: the first sequent in the order of a strategy, and the first choice, that fires. Each sequent is handed to the search for
+// a choice as the part of the book that holds it. Linear starts at the first sequent; Fair starts at the sheet's place and wraps.
 use counts::sequent_count;
 use counts::sequents_start;
 use firing::first_choice;
@@ -11,12 +11,21 @@ ghost use lib.ListN.{length, take};
 ghost use Rattle.rules.specs.Reading.{num};
 ghost use Rattle.texts.specs.Names.{countAt};
 ghost use Rattle.firing.specs.Answers.{TablesReady};
-ghost use Rattle.evaluate.specs.Answers.{FirstOf, Evaluates};
+ghost use Rattle.evaluate.specs.Answers.{Handed, FirstOf, Evaluates};
 
 // Nothing fires; or the number of the sequent that does, its place and the place behind it.
 pub enum Fired {
     Nothing,
     At(u64, usize, usize),
+}
+
+// The part of the book that holds the sequent at a place; the next one starts behind it.
+pub fn sequent_at(book: &[u8], at: usize) -> &[u8]
+    requires { ⌜ (at ≤ length (now book)) × (length (now book) ≤ 32768) ⌝ }
+    ensures { λ r. ⌜ Handed (now (book .entry)) at (now r) ⌝ }
+{
+    let e = skip_sequent(book, book, at);
+    &book[at..e]
 }
 
 // The first of n sequents from a place on that fires; the first of them has number i.
@@ -39,8 +48,9 @@ fn first_of(
     let mut p = at;
     let mut j = 0;
     while j < n {
-        let e = skip_sequent(book, book, p);
-        if first_choice(book, &book[p..e], env, keys, nk, facts, nf, dom, nd) {
+        let q = sequent_at(book, p);
+        let e = p + q.len();
+        if first_choice(book, q, env, keys, nk, facts, nf, dom, nd) {
             return Fired::At(i + j, p, e);
         }
         p = e;

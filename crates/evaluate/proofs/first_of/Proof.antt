@@ -1,13 +1,18 @@
 -- The sequents still to come have the answer of all.
-use Rattle.texts.specs.Parts.{part}
-use lib.ListN.{drop, length-take, length-drop, length, take}
 use native.Mathlib.Omega.{arith}
 use borrow.Author.Needs.{needs}
 use Prim.Native.Nat.{_≤_, _-_}
-use mathlib.Core.Path.{_≡_, refl, _∙_}
+use mathlib.Core.Bool.{true, false}
+use mathlib.Core.Path.{_≡_, refl, _∙_, subst}
+use lib.ListN.{length, take}
+use Rattle.firing.specs.Answers.{FirstChoice}
 use Rattle.evaluate.specs.Visits.{SequentsLeft, sequents-start, sequents-next, sequents-found, sequents-end}
 use Rattle.evaluate.proofs.first_of.Statement.{statement}
 use Rattle.evaluate.proofs.first_of.Tie as tie
+use Rattle.evaluate.proofs.first_of.Reads as reads
+use Rattle.evaluate.proofs.first_of.Lts as lts
+use Rattle.evaluate.proofs.sequent_at.Reads as sequent-at-reads
+use Rattle.firing.proofs.first_choice.Reads as first-choice-reads
 
 abbrev Inv-loop : tie.InvT-loop
 Inv-loop book at i n env₀ keys nk facts nf dom nd p₀ j₀ env p j =
@@ -16,84 +21,77 @@ Inv-loop book at i n env₀ keys nk facts nf dom nd p₀ j₀ env p j =
 abbrev μ-loop : tie.MeasureT-loop
 μ-loop book at i n env₀ keys nk facts nf dom nd p₀ j₀ env p j = n - j
 
+-- src/lib.rt:50:5
 loop-holds : tie.Need-loop-holds Inv-loop μ-loop
 loop-holds c =
     let s = c .before .before .before .before .before in
     let a = s .args in
     (omega arith, (s .pre .0, (refl, sequents-start (a .book .now) (a .at) (a .i) (a .n) (take (a .nk) (a .keys .now)) (take (a .nf) (a .facts .now)) (take (a .nd) (a .dom .now)))))
 
-skip-sequent-requires : tie.Need-skip-sequent-requires Inv-loop μ-loop
-skip-sequent-requires c κs = search needs
+-- src/lib.rt:51:13
+sequent-at-requires : tie.Need-sequent-at-requires Inv-loop μ-loop
+sequent-at-requires c κs = search needs
 
-sub-first-choice : tie.Need-sub-first-choice Inv-loop μ-loop
-sub-first-choice c = search needs
+-- src/lib.rt:52:17
+add-e : tie.Need-add-e Inv-loop μ-loop
+add-e c = omega (arith, c .sequent-at .ensures .within)
 
-part-first-choice-start : tie.Need-part-first-choice-start Inv-loop μ-loop
-part-first-choice-start c = search needs
-
-part-first-choice-end : tie.Need-part-first-choice-end Inv-loop μ-loop
-part-first-choice-end c = search needs
-
+-- src/lib.rt:53:12
 first-choice-requires : tie.Need-first-choice-requires Inv-loop μ-loop
 first-choice-requires c κs =
-    let l = c .before .before .before .before in
-    let s = l .before .before .before .before .before .before in
-    let a = s .args in
+    let l = c .before .before .before in
+    let s = c .before .before .before .before .before .before .before .before .before in
     let i = l .loop .inv .1 in
-    let w = length-take (c .before .before .skip-sequent .result - l .loop .p) (drop (l .loop .p) (a .book .now)) in
-    let x = length-drop (l .loop .p) (a .book .now) in
-    (omega arith, (omega arith, s .pre .1 .1 .1 .1))
+    (omega (arith, c .before .sequent-at .ensures .within, s .pre .1 .0), (omega (arith, i .1 .0, s .pre .1 .1 .1 .0), s .pre .1 .1 .1 .1))
 
-add-t23 : tie.Need-add-t23 Inv-loop μ-loop
-add-t23 c = search needs
+-- src/lib.rt:54:30
+add-t21 : tie.Need-add-t21 Inv-loop μ-loop
+add-t21 c = search needs
 
+-- src/lib.rt:54:13
 same-length : tie.Need-same-length Inv-loop μ-loop
 same-length c = search needs
 
+-- src/lib.rt:54:13
 returns : tie.Need-returns Inv-loop μ-loop
-unfolding part
 returns c =
-    let l = c .before .before .before .before .before .before .before .before in
-    let s = l .before .before .before .before .before .before in
+    let l = c .before .before .before .before .before .before .before in
+    let s = c .before .before .before .before .before .before .before .before .before .before .before .before .before in
     let a = s .args in
     let i = l .loop .inv .1 in
-    let f = rw (c .if1 .taken) at (c .before .before .before .first-choice .ensures) in
-    sequents-found (a .book .now) (a .at) (a .i) (a .n) (take (a .nk) (a .keys .now)) (take (a .nf) (a .facts .now)) (take (a .nd) (a .dom .now)) (l .loop .j) (l .loop .p) (i .1 .1) (c .before .before .before .before .before .before .skip-sequent .result) (omega arith) (c .before .before .before .before .before .before .skip-sequent .ensures .1) (c .before .before .before .first-choice .last .1 .1 .0) f
+    let h = c .before .before .before .before .before .sequent-at .ensures in
+    let g = c .before .before .before .first-choice in
+    sequents-found (a .book .now) (a .at) (a .i) (a .n) (take (a .nk) (a .keys .now)) (take (a .nf) (a .facts .now)) (take (a .nd) (a .dom .now)) (l .loop .j) (l .loop .p) (i .1 .1) _ (omega arith) (h .skips) (g .last .1 .1 .0) (subst (λ x. FirstChoice (a .book .now) x (take (a .nk) (a .keys .now)) (take (a .nf) (a .facts .now)) (take (a .nd) (a .dom .now)) true (g .last .1 .1 .0)) (h .is) (rw (c .if1 .taken) at (g .ensures)))
 
+-- src/lib.rt:57:9
 add-j : tie.Need-add-j Inv-loop μ-loop
 add-j c = search needs
 
+-- src/lib.rt:50:5
 loop-less : tie.Need-loop-less Inv-loop μ-loop
 loop-less c = search needs
 
+-- src/lib.rt:50:5
 loop-again : tie.Need-loop-again Inv-loop μ-loop
-unfolding part
 loop-again c =
-    let l = c .before .before .before .before .before .before .before .before in
-    let s = l .before .before .before .before .before .before in
+    let l = c .before .before .before .before .before .before .before in
+    let s = c .before .before .before .before .before .before .before .before .before .before .before .before .before in
     let a = s .args in
     let i = l .loop .inv .1 in
-    let f = rw (c .if1 .left) at (c .before .before .before .first-choice .ensures) in (
-      omega arith,
-      (
-        c .before .before .before .before .before .before .skip-sequent .ensures .0 .1,
-        (
-          c .before .before .before .first-choice .kept .1 .1 .0 ∙ i .1 .0,
-          sequents-next (a .book .now) (a .at) (a .i) (a .n) (take (a .nk) (a .keys .now)) (take (a .nf) (a .facts .now)) (take (a .nd) (a .dom .now)) (l .loop .j) (l .loop .p) (i .1 .1) (c .before .before .before .before .before .before .skip-sequent .result) (omega arith) (c .before .before .before .before .before .before .skip-sequent .ensures .1) (c .before .before .before .first-choice .last .1 .1 .0) f,
-        ),
-      ),
-    )
+    let h = c .before .before .before .before .before .sequent-at .ensures in
+    let g = c .before .before .before .first-choice in
+    (omega arith, (h .within, (g .kept .1 .1 .0 ∙ i .1 .0, sequents-next (a .book .now) (a .at) (a .i) (a .n) (take (a .nk) (a .keys .now)) (take (a .nf) (a .facts .now)) (take (a .nd) (a .dom .now)) (l .loop .j) (l .loop .p) (i .1 .1) _ (omega arith) (h .skips) (g .last .1 .1 .0) (subst (λ x. FirstChoice (a .book .now) x (take (a .nk) (a .keys .now)) (take (a .nf) (a .facts .now)) (take (a .nd) (a .dom .now)) false (g .last .1 .1 .0)) (h .is) (rw (c .if1 .left) at (g .ensures))))))
 
+-- src/lib.rt:32:1
 same-length-2 : tie.Need-same-length-2 Inv-loop μ-loop
 same-length-2 c = search needs
 
+-- src/lib.rt:32:1
 returns-2 : tie.Need-returns-2 Inv-loop μ-loop
 returns-2 c =
     let l = c .before in
-    let s = l .before .before .before .before .before .before in
-    let a = s .args in
-    let i = l .loop .inv .1 in
-    sequents-end (a .book .now) (a .at) (a .i) (a .n) (take (a .nk) (a .keys .now)) (take (a .nf) (a .facts .now)) (take (a .nd) (a .dom .now)) (l .loop .j) (l .loop .p) (i .1 .1) (l .loop .env) (omega arith)
+    let a = c .before .before .before .before .before .before .before .args in
+    sequents-end (a .book .now) (a .at) (a .i) (a .n) (take (a .nk) (a .keys .now)) (take (a .nf) (a .facts .now)) (take (a .nd) (a .dom .now)) (l .loop .j) (l .loop .p) (l .loop .inv .1 .1 .1) (l .loop .env) (omega arith)
 
 pub first-of-spec : {M : Type 1} → statement M
 first-of-spec =
@@ -102,12 +100,10 @@ first-of-spec =
     Inv-loop
     μ-loop
     loop-holds
-    skip-sequent-requires
-    sub-first-choice
-    part-first-choice-start
-    part-first-choice-end
+    sequent-at-requires
+    add-e
     first-choice-requires
-    add-t23
+    add-t21
     same-length
     returns
     add-j
