@@ -21,27 +21,27 @@ fn var(v: u16) -> Term {
     Term::Variable(v)
 }
 
-fn a() -> Term {
+pub fn a() -> Term {
     Term::Constant(0)
 }
 
-fn b() -> Term {
+pub fn b() -> Term {
     Term::Constant(1)
 }
 
-fn f(term: Term) -> Term {
+pub fn f(term: Term) -> Term {
     Term::Application(0, vec![term])
 }
 
-fn fact(relation: u16, term: Term) -> Literal {
+pub fn fact(relation: u16, term: Term) -> Literal {
     Literal::Fact(relation, vec![term])
 }
 
-fn same(left: Term, right: Term) -> Literal {
+pub fn same(left: Term, right: Term) -> Literal {
     Literal::Identity(left, right)
 }
 
-fn rule(free: u16, body: Vec<Literal>, head: Vec<Vec<Literal>>) -> Sequent {
+pub fn rule(free: u16, body: Vec<Literal>, head: Vec<Vec<Literal>>) -> Sequent {
     let head = head.into_iter().map(|literals| Disjunct { origins: vec![], literals }).collect();
     Sequent { free, body, head }
 }
@@ -64,19 +64,20 @@ fn book(sequent: Sequent) -> Draft {
     }
 }
 
-fn constant(symbol: u8, value: u64) -> u64 {
+pub fn constant(symbol: u8, value: u64) -> u64 {
     head(1, symbol, 0) | value
 }
 
-fn application(element: u8, value: u64) -> u64 {
+pub fn application(element: u8, value: u64) -> u64 {
     head(2, 0, 1) | argument(0, element) | value
 }
 
-fn held(relation: u8, element: u8) -> u64 {
+pub fn held(relation: u8, element: u8) -> u64 {
     head(0, relation, 1) | argument(0, element)
 }
 
-fn sheet(created: usize, keys: &[u64], facts: &[u64]) -> PlainSheet {
+/// A sheet of these keys and facts, with the depths that its keys give.
+pub fn sheet(created: usize, keys: &[u64], facts: &[u64]) -> PlainSheet {
     let depths = depths(keys).expect("a sheet with names");
     let (keys, facts) = (keys.to_vec(), facts.to_vec());
     PlainSheet { number: 0, place: 0, created, keys, facts, depths }

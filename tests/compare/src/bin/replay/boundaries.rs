@@ -1,7 +1,8 @@
 //! Calls at the boundaries of every argument, each with its name and the answer that document 01
 //! gives it.
 
-use crate::edges;
+use crate::cases::{Cases, FREE, MAX, SHEET};
+use crate::{chains, edges, steps};
 use compare::judge::Calls;
 use compare::tape::Tape;
 use generator::damage::full_sheet;
@@ -12,83 +13,12 @@ use reference::child::Bound;
 use reference::plain::{PlainPool, PlainSheet};
 use reference::VERSION_1;
 
-const MAX: u32 = u32::MAX;
-const SHEET: usize = VERSION_1.sheet();
 /// The values at which scheduler, strategy and list are tried.
 const SETTINGS: [u32; 4] = [0, 1, 2, MAX];
-const FREE: Bound = Bound { kind: 0, number: 0 };
-
-/// The cases so far: the line of each, and its name.
-struct Cases<'a> {
-    tape: &'a mut Tape,
-    named: Vec<(usize, String)>,
-    wrong: Option<String>,
-}
-
-impl Cases<'_> {
-    /// Holds the answer of the call just made to the one that is wanted, and notes its name.
-    fn case(&mut self, before: usize, name: String, got: (u32, u32), wanted: (u32, u32)) {
-        if got != wanted && self.wrong.is_none() {
-            self.wrong = Some(format!("{name}: answers {got:?}, not {wanted:?}"));
-        }
-        if self.tape.records > before {
-            self.named.push((self.tape.records, name));
-        }
-    }
-
-    fn open(&mut self, what: &str, book: &[u8], pool: &mut [u8], numbers: [u32; 2], wanted: u32) {
-        let before = self.tape.records;
-        let answer = self.tape.open(book, pool, numbers[0], numbers[1]);
-        let name = format!("open, {what}");
-        self.case(before, name, (answer, 0), (wanted, 0));
-    }
-
-    fn step(&mut self, what: &str, book: &[u8], pool: &mut [u8], bound: Bound, wanted: u32) {
-        let before = self.tape.records;
-        let answer = self.tape.step(book, pool, bound);
-        self.case(before, format!("step, {what}"), (answer, 0), (wanted, 0));
-    }
-
-    fn run(
-        &mut self,
-        what: &str,
-        book: &[u8],
-        pool: &mut [u8],
-        bound: Bound,
-        budget: u32,
-        wanted: (u32, u32),
-    ) {
-        let before = self.tape.records;
-        let answer = self.tape.run(book, pool, bound, budget);
-        self.case(before, format!("run, {what}"), answer, wanted);
-    }
-
-    fn take(
-        &mut self,
-        what: &str,
-        book: &[u8],
-        pool: &mut [u8],
-        list: u32,
-        out: usize,
-        wanted: u32,
-    ) {
-        let before = self.tape.records;
-        let answer = self.tape.take(book, pool, list, &mut vec![9; out]);
-        self.case(before, format!("take, {what}"), (answer, 0), (wanted, 0));
-    }
-
-    /// All four calls, the same answer; settings are known, the output a sheet's.
-    fn every(&mut self, what: &str, book: &[u8], pool: &mut [u8], wanted: u32) {
-        self.open(what, book, pool, [0, 0], wanted);
-        self.step(what, book, pool, FREE, wanted);
-        self.run(what, book, pool, FREE, MAX, (wanted, 0));
-        self.take(what, book, pool, 0, SHEET, wanted);
-    }
-}
 
 /// Writes every case to the tape; answers their lines and names.
 pub fn write(tape: &mut Tape) -> Result<Vec<(usize, String)>, String> {
-    let mut cases = Cases { tape, named: Vec::new(), wrong: None };
+    let mut cases = Cases::new(tape);
     books(&mut cases);
     lengths(&mut cases);
     settings(&mut cases);
@@ -96,6 +26,8 @@ pub fn write(tape: &mut Tape) -> Result<Vec<(usize, String)>, String> {
     all_slots(&mut cases);
     soundness(&mut cases);
     bounds(&mut cases);
+    steps::write(&mut cases);
+    chains::write(&mut cases);
     match cases.wrong {
         Some(text) => Err(text),
         None => Ok(cases.named),

@@ -8,7 +8,10 @@
 //! and take are written down, and the reference makes the steps and runs between them.
 
 mod boundaries;
+mod cases;
+mod chains;
 mod edges;
+mod steps;
 
 use compare::judge::Judge;
 use compare::recorded::replay;
