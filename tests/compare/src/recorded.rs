@@ -80,23 +80,38 @@ pub fn replay(folder: &Path, engine: &mut dyn Calls) -> Result<[usize; 4], Strin
     Ok([listings, refusals, pools, unsound])
 }
 
+/// The recorded listings: each input with its text.
+pub fn listings(folder: &Path) -> Result<Vec<(Vec<u8>, String)>, String> {
+    listings_of(&read(folder, "listings.txt")?)
+}
+
 /// `input HEX`, then `| ` before each line of the listing.
-fn replay_listings(text: &str, engine: &mut dyn Calls) -> Result<usize, String> {
-    let mut count = 0;
-    for case in text.split("\ninput ").skip(1) {
+fn listings_of(text: &str) -> Result<Vec<(Vec<u8>, String)>, String> {
+    let listing = |case: &str| {
         let (input, rest) = case.split_once('\n').ok_or("a listing without lines")?;
         let lines = rest.lines().filter_map(|line| line.strip_prefix("| "));
         let recorded: String = lines.map(|line| format!("{line}\n")).collect();
-        for found in [listing(&unhex(input)), listing_by(engine, &unhex(input))] {
-            if recorded.is_empty() || found != recorded {
+        if recorded.is_empty() {
+            return Err(format!("no text is recorded for input {input}"));
+        }
+        Ok((unhex(input), recorded))
+    };
+    text.split("\ninput ").skip(1).map(listing).collect()
+}
+
+fn replay_listings(text: &str, engine: &mut dyn Calls) -> Result<usize, String> {
+    let cases = listings_of(text)?;
+    for (count, (input, recorded)) in cases.iter().enumerate() {
+        for found in [listing(input), listing_by(engine, input)] {
+            if found != *recorded {
+                let input = hex(input);
                 return Err(format!(
                     "listing {count}: recorded\n{recorded}found\n{found}input {input}"
                 ));
             }
         }
-        count += 1;
     }
-    Ok(count)
+    Ok(cases.len())
 }
 
 /// What the listing program prints, its calls made by an engine.

@@ -9,7 +9,7 @@ use crate::watch::{Firing, Watch};
 #[derive(Clone, Copy, PartialEq, Eq, Debug)]
 pub enum Outcome {
     Complete,
-    Failed,
+    Failed { sequent: usize, chosen: [u8; 4] },
     Fires { sequent: usize, chosen: [u8; 4] },
 }
 
@@ -75,7 +75,7 @@ pub fn evaluate<W: Watch>(book: &Book, sheet: &Sheet, domain: &[u8], watch: &mut
             let disjuncts = rows(&book.disjuncts, sequent.head).len();
             if disjuncts == 0 {
                 watch.failed();
-                return Outcome::Failed;
+                return Outcome::Failed { sequent: index, chosen };
             }
             let free = sequent.free;
             watch.fired(&Firing {

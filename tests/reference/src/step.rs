@@ -47,7 +47,7 @@ impl Engine {
                 pool::push_back(bytes, COMPLETE, slot);
                 0
             }
-            Outcome::Failed => {
+            Outcome::Failed { .. } => {
                 free_first(bytes, limits, WAITING);
                 0
             }

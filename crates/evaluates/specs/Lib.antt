@@ -1,0 +1,2 @@
+-- A lone sheet that passed the checks, and what fires on it.
+pub mod Lone
