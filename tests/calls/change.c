@@ -156,7 +156,8 @@ static uint8_t *any_sheet(struct buffer *pool)
 /* A table of a sheet, keys or facts: its first entries, or any. */
 static uint8_t *any_entry(uint8_t *sheet)
 {
-    return sheet + 16 + 1024 * below(2) + 8 * below(below(4) ? 6 : 128);
+    const size_t table = below(2), entry = below(below(4) ? 6 : 128);
+    return sheet + 16 + 1024 * table + 8 * entry;
 }
 
 static void change_length(struct buffer *pool)
@@ -194,9 +195,11 @@ static void change_sheet(struct buffer *pool)
     case 5: /* few or no elements left */
         sheet[4] = (uint8_t)(60 + below(5));
         break;
-    case 1:
-        memmove(any_entry(sheet), any_entry(any_sheet(pool)), 8);
+    case 1: {
+        const uint8_t *from = any_entry(any_sheet(pool));
+        memmove(any_entry(sheet), from, 8);
         break;
+    }
     case 2:
         memmove(sheet, any_sheet(pool), CHASE_SHEET_SIZE);
         break;

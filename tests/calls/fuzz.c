@@ -10,8 +10,9 @@
  *  - a step is a run with a budget of 1;
  *  - done, it leaves a pool that is sound: a run with budget 0 answers 0;
  *  - a take copies a sheet's length, leaves later bytes, and makes one list one shorter.
- * The same SEED makes the same calls; SECONDS only says when to end. At the end it prints how often each answer came, and
- * after 300,000 calls or more fails if one never came. */
+ * The same SEED makes the same calls, whatever the compiler and the machine, up to one that is broken off; SECONDS only
+ * says when to end. At the end it prints how often each answer came, and after 300,000 calls or more fails if one never
+ * came. */
 #include <stdio.h>
 #include <stdlib.h>
 #include <string.h>
@@ -198,10 +199,13 @@ static void begin(void)
             recorded_books[recorded_book_of[pool_number]].len);
     } else {
         const size_t number = below(recorded_book_count);
+        struct call open = {CALL_OPEN, {0, 0, 0}};
         set(&now.book, recorded_books[number].at, recorded_books[number].len);
         fill(&now.pool, CHASE_POOL_SIZE(below(20) ? 1 + below(8) : 1 + below(64)));
         fill(&now.out, 0);
-        one_call(&(struct call){CALL_OPEN, {(uint32_t)below(2), (uint32_t)below(2), 0}}, &stop);
+        open.given[0] = (uint32_t)below(2);
+        open.given[1] = (uint32_t)below(2);
+        one_call(&open, &stop);
     }
 }
 

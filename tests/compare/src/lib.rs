@@ -1,6 +1,7 @@
 //! The comparisons: books against a peer step by step (`published`), the calls against a second
-//! engine or by themselves (`judge`, `scenarios`), the exported calls as such an engine (`pipes`),
-//! recorded answers (`recorded`), and calls written down for a program that makes them again (`tape`).
+//! engine or by themselves (`judge`, `scenarios`, `rare`), the exported calls as such an engine
+//! (`pipes`), recorded answers (`recorded`), and calls written down for a program that makes them
+//! again (`tape`).
 
 pub mod corners;
 pub mod judge;
@@ -8,6 +9,7 @@ pub mod peer;
 pub mod pipes;
 pub mod promises;
 pub mod published;
+pub mod rare;
 pub mod recorded;
 pub mod scenarios;
 pub mod tape;

@@ -6,6 +6,7 @@
 //! number; FLOOR is how often each name must be met at least; COMMAND starts the driver
 //! (tests/calls/driver.c), once for each thread.
 
+use compare::judge::Judge;
 use compare::pipes::Driver;
 use compare::recorded::replay;
 use generator::counts::Counts;
@@ -45,6 +46,8 @@ fn compare_calls(folder: &Path, wanted: Wanted, command: &[String]) -> Result<()
     println!(
         "recorded listings {listings}, refusals {refusals}, calls {calls}, unsound pools {unsound}"
     );
+    let rare = compare::rare::steps(&mut Judge::new(Some(&mut driver)))?;
+    println!("rare steps {rare}");
     let replayed = driver.calls;
     driver.end().map_err(|error| error.to_string())?;
     let (counts, calls) = judge_all(wanted, command)?;
