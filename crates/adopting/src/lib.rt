@@ -1,27 +1,14 @@
 // adopting: what a step writes into a pool's slots and lists. The base's slot is freed, all zero, and no list names it any more; a
 // child is stored in a slot, which joins the waiting or the bounded ones.
+use heads::clear_slot;
 use lists::forget;
 use lists::join;
 use lists::next_number;
-use openings::clear;
 use slots::put_sheet;
-ghost use mathlib.Core.Path.{_≡_};
 ghost use Prim.Native.Nat.{_+_, _*_, _≤_};
-ghost use lib.ListN.{length, replicate};
-ghost use Rattle.octets.specs.Patch.{patched};
+ghost use lib.ListN.{length};
 ghost use Rattle.sheets.specs.Form.{limitsOf, Formed};
 ghost use Rattle.adopting.specs.Slots.{Freed, Adopted};
-
-// Slot i is all zero.
-fn clear_slot(pool: &mut [u8], i: usize, le: usize, lk: usize, lf: usize)
-    requires { ⌜ 208 + (16 + 8 * lk + 8 * lf + le) * i + (16 + 8 * lk + 8 * lf + le) ≤ length (now pool) ⌝ }
-    ensures { λ _. ⌜ now (pool .exit) ≡ patched (208 + (16 + 8 * lk + 8 * lf + le) * i) (replicate (16 + 8 * lk + 8 * lf + le) 0) (now (pool .entry)) ⌝ }
-{
-    let size = 16 + 8 * lk + 8 * lf + le;
-    let a = 208 + size * i;
-    let e = a + size;
-    clear(&mut pool[a..e]);
-}
 
 // The first waiting sheet, in slot i, is given up.
 pub fn free_base(pool: &mut [u8], i: usize, le: usize, lk: usize, lf: usize)

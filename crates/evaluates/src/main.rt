@@ -120,7 +120,7 @@ fn read_part(slot: &mut [u8], at: usize, room: usize, n: usize) -> bool
     }
     let e = at + n;
     let end = at + room;
-    openings::clear(&mut slot[at..end]);
+    heads::clear(&mut slot[at..end]);
     io::read_full(0, &mut slot[at..e]) == n
 }
 

@@ -1,3 +1,4 @@
--- The header of a pool written anew, and what a call writes into a pool.
-pub mod Head
+-- The lists of a pool's header, changed in place, and a sheet written into its slot.
+pub mod Shift
+pub mod Lists
 pub mod Writes

@@ -1,16 +1,17 @@
 // lists: the three lists of slots in a pool's header, changed as a step changes them: the first waiting slot leaves, to be complete
 // or to be given up; a child's slot joins, open or bounded. And the lowest slot that no list names.
-use heads::store_head;
+use heads::pop;
+use heads::push_back;
+use heads::push_front;
 use octets::byte;
-use octets::load_bytes;
 use octets::num16;
 ghost use mathlib.Core.Path.{_≡_};
 ghost use Prim.Native.Nat.{_+_, _≤_, _<_, min};
-ghost use lib.ListN.{length, getD, take, drop};
+ghost use lib.ListN.{length, getD};
 ghost use Rattle.base.specs.Lists.{mem};
 ghost use Rattle.rules.specs.Image.{listIn};
 ghost use Rattle.lists.specs.Header.{inUse, nextIn, LowestFree};
-ghost use Rattle.lists.specs.Moves.{Finished, Forgotten, JoinedBack, JoinedFront, JoinedBounded, Joined};
+ghost use Rattle.lists.specs.Moves.{CountedOn, Finished, Forgotten, Enlisted, Joined};
 
 // How many slots the list with its count at a place has: what is counted, or its room if that is less.
 fn list_length(p: &[u8], count: usize) -> usize
@@ -73,22 +74,18 @@ pub fn next_number(p: &[u8]) -> u64
     num16(p, 8) + 65536 * num16(p, 10)
 }
 
-// The list at a place, as the front of a table; how many slots it has.
-fn load_list(p: &[u8], at: usize, count: usize, t: &mut [u64]) -> usize
-    requires { ⌜ (at + 64 ≤ length (now p)) × (64 ≤ length (now t)) ⌝ }
-    ensures { λ r. ⌜ (r ≤ 64) × (take r (now (t .exit)) ≡ listIn at (getD (now (p .entry)) count 0) (now (p .entry))) ⌝ }
+// The next model number is one more.
+fn count_on(pool: &mut [u8])
+    requires { ⌜ 208 ≤ length (now pool) ⌝ }
+    ensures { λ _. ⌜ CountedOn (now (pool .entry)) (now (pool .exit)) ⌝ }
 {
-    let n = list_length(p, count);
-    load_bytes(p, at, t, n);
-    n
-}
-
-// The same from the second entry of a table on.
-fn load_behind(p: &[u8], at: usize, count: usize, t: &mut [u64]) -> usize
-    requires { ⌜ (at + 64 ≤ length (now p)) × (65 ≤ length (now t)) ⌝ }
-    ensures { λ r. ⌜ (r ≤ 64) × (take r (drop 1 (now (t .exit))) ≡ listIn at (getD (now (p .entry)) count 0) (now (p .entry))) ⌝ }
-{
-    load_list(p, at, count, &mut t[1..65])
+    let next = next_number(pool) + 1;
+    let low = next % 65536;
+    let high = next / 65536;
+    pool[8] = (low % 256) as u8;
+    pool[9] = (low / 256 % 256) as u8;
+    pool[10] = (high % 256) as u8;
+    pool[11] = (high / 256 % 256) as u8;
 }
 
 // The first waiting slot goes to the back of the complete ones.
@@ -96,22 +93,9 @@ pub fn finish(pool: &mut [u8])
     requires { ⌜ 208 ≤ length (now pool) ⌝ }
     ensures { λ _. ⌜ Finished (now (pool .entry)) (now (pool .exit)) ⌝ }
 {
-    let mut w = [0u64; 64];
-    let mut c = [0u64; 65];
-    let mut b = [0u64; 64];
-    let nw = load_list(pool, 16, 12, &mut w);
-    let nc = load_list(pool, 80, 13, &mut c);
-    let nb = load_list(pool, 144, 14, &mut b);
-    if nw == 0 {
-        return;
-    }
-    if nc == 64 {
-        return;
-    }
-    c[nc] = w[0];
-    let k = nc + 1;
-    let next = next_number(pool);
-    store_head(pool, next, &w[1..nw], &c[0..k], &b[0..nb]);
+    let slot = byte(pool, 16);
+    pop(pool, 0);
+    push_back(pool, 1, slot);
 }
 
 // The first waiting slot goes.
@@ -119,91 +103,30 @@ pub fn forget(pool: &mut [u8])
     requires { ⌜ 208 ≤ length (now pool) ⌝ }
     ensures { λ _. ⌜ Forgotten (now (pool .entry)) (now (pool .exit)) ⌝ }
 {
-    let mut w = [0u64; 64];
-    let mut c = [0u64; 64];
-    let mut b = [0u64; 64];
-    let nw = load_list(pool, 16, 12, &mut w);
-    let nc = load_list(pool, 80, 13, &mut c);
-    let nb = load_list(pool, 144, 14, &mut b);
-    if nw == 0 {
-        return;
-    }
-    let next = next_number(pool);
-    store_head(pool, next, &w[1..nw], &c[0..nc], &b[0..nb]);
+    pop(pool, 0);
 }
 
-// A slot joins the waiting ones at the back; the next number is one more.
-fn join_back(pool: &mut [u8], slot: u64)
+// The slot of a child joins the bounded ones, or the waiting ones where the scheduler says.
+fn enlist(pool: &mut [u8], slot: u64, cut: bool)
     requires { ⌜ 208 ≤ length (now pool) ⌝ }
-    ensures { λ _. ⌜ JoinedBack slot (now (pool .entry)) (now (pool .exit)) ⌝ }
+    ensures { λ _. ⌜ Enlisted slot cut (now (pool .entry)) (now (pool .exit)) ⌝ }
 {
-    let mut w = [0u64; 65];
-    let mut c = [0u64; 64];
-    let mut b = [0u64; 64];
-    let nw = load_list(pool, 16, 12, &mut w);
-    let nc = load_list(pool, 80, 13, &mut c);
-    let nb = load_list(pool, 144, 14, &mut b);
-    if nw == 64 {
+    if cut {
+        push_back(pool, 2, slot);
         return;
     }
-    w[nw] = slot;
-    let k = nw + 1;
-    let next = next_number(pool) + 1;
-    store_head(pool, next, &w[0..k], &c[0..nc], &b[0..nb]);
-}
-
-// A slot joins the waiting ones at the front; the next number is one more.
-fn join_front(pool: &mut [u8], slot: u64)
-    requires { ⌜ 208 ≤ length (now pool) ⌝ }
-    ensures { λ _. ⌜ JoinedFront slot (now (pool .entry)) (now (pool .exit)) ⌝ }
-{
-    let mut w = [0u64; 65];
-    let mut c = [0u64; 64];
-    let mut b = [0u64; 64];
-    let nw = load_behind(pool, 16, 12, &mut w);
-    let nc = load_list(pool, 80, 13, &mut c);
-    let nb = load_list(pool, 144, 14, &mut b);
-    if nw == 64 {
+    if byte(pool, 5) == 0 {
+        push_back(pool, 0, slot);
         return;
     }
-    w[0] = slot;
-    let k = nw + 1;
-    let next = next_number(pool) + 1;
-    store_head(pool, next, &w[0..k], &c[0..nc], &b[0..nb]);
+    push_front(pool, 0, slot);
 }
 
-// A slot joins the bounded ones; the next number is one more.
-fn join_bounded(pool: &mut [u8], slot: u64)
-    requires { ⌜ 208 ≤ length (now pool) ⌝ }
-    ensures { λ _. ⌜ JoinedBounded slot (now (pool .entry)) (now (pool .exit)) ⌝ }
-{
-    let mut w = [0u64; 64];
-    let mut c = [0u64; 64];
-    let mut b = [0u64; 65];
-    let nw = load_list(pool, 16, 12, &mut w);
-    let nc = load_list(pool, 80, 13, &mut c);
-    let nb = load_list(pool, 144, 14, &mut b);
-    if nb == 64 {
-        return;
-    }
-    b[nb] = slot;
-    let k = nb + 1;
-    let next = next_number(pool) + 1;
-    store_head(pool, next, &w[0..nw], &c[0..nc], &b[0..k]);
-}
-
-// The slot of a child joins, open or bounded; the scheduler says where.
+// The slot of a child joins, and the next number is one more.
 pub fn join(pool: &mut [u8], slot: u64, cut: bool)
     requires { ⌜ 208 ≤ length (now pool) ⌝ }
     ensures { λ _. ⌜ Joined slot cut (now (pool .entry)) (now (pool .exit)) ⌝ }
 {
-    if cut {
-        join_bounded(pool, slot);
-        return;
-    }
-    if byte(pool, 5) == 0 {
-        join_back(pool, slot);
-        return;
-    }
-    join_front(pool, slot);
+    enlist(pool, slot, cut);
+    count_on(pool);
 }

@@ -9,7 +9,7 @@ use mathlib.Core.Bool.{Bool, true, false, _&&_}
 use mathlib.Core.List.{List, [], _∷_, _++_, map}
 use lib.ListN.{length, set, replicate, replicate-append-replicate}
 use lib.Dec.{T, leb, ltb, eqb}
-use borrow.Author.Tests.{lt-ltb, le-ltb, le-leb, lt-leb, eq-eqb, ne-eqb}
+use borrow.Author.Tests.{ltb-true, lt-ltb, le-ltb, le-leb, lt-leb, eq-eqb, ne-eqb}
 use Rattle.base.specs.Branch.{if}
 use Rattle.base.specs.Lists.{flat}
 use Rattle.rules.specs.Book.{Book}
@@ -21,7 +21,8 @@ use Rattle.rules.specs.Calls.{rightLength, checked, Outcome, outcome, openCall,
 use Rattle.images.specs.Sheets.{blank-zero}
 use Rattle.numbers.specs.Answers.{checked-ends, checked-refused}
 use Rattle.poolcheck.specs.Books.{right-slots}
-use Rattle.sheetparts.specs.Ways.{on, off}
+use Rattle.sheetparts.specs.Ways.{on}
+use Rattle.openings.specs.Order.{firstRefusal, first-refuses, first-none}
 
 -- ---- lengths
 
@@ -50,40 +51,53 @@ right-true len e = subst T e tt
 
 -- ---- behind the book's check
 
+-- 12: a scheduler and a strategy that document 01 knows.
+abbrev pub knownSettings : ℕ → ℕ → Bool
+knownSettings scheduler strategy = ltb scheduler schedulers && ltb strategy strategies
+
 unfoldable pub openRest : Bytes → ℕ → ℕ → Outcome
 openRest pool scheduler strategy =
-    if (rightLength (length pool)) (λ _. if (ltb scheduler schedulers && ltb strategy strategies)
+    if (rightLength (length pool)) (λ _. if (knownSettings scheduler strategy)
     (λ _. outcome 0 (poolBytes limits (opened scheduler strategy (slotsIn limits (length pool))))) (λ _. outcome 12 pool)) (λ _. outcome 11 pool)
 
 pub record OpenRest (pool : Bytes) (scheduler strategy answer : ℕ) (after : Bytes) : Type 0 where
   pub answers : answer ≡ openRest pool scheduler strategy .answer
   pub leaves : after ≡ openRest pool scheduler strategy .pool
 
-module _ (pool : Bytes) (scheduler strategy : ℕ) where
-  rest-is : (o : Outcome) → openRest pool scheduler strategy ≡ o → OpenRest pool scheduler strategy (o .answer) (o .pool)
-  rest-is o e = record { answers = ap (λ (x : Outcome). x .answer) (sym e); leaves = ap (λ (x : Outcome). x .pool) (sym e) }
-
-  pub wrong-length : false ≡ rightLength (length pool) → OpenRest pool scheduler strategy 11 pool
-  unfolding openRest outcome
-  wrong-length e = rest-is (outcome 11 pool) (off (rightLength (length pool)) _ _ (sym e))
-
-  settings-wrong : true ≡ rightLength (length pool) → ltb scheduler schedulers && ltb strategy strategies ≡ false → OpenRest pool scheduler strategy 12 pool
-  unfolding openRest outcome
-  settings-wrong e q = rest-is (outcome 12 pool) (on (rightLength (length pool)) _ _ (sym e) ∙ off (ltb scheduler schedulers && ltb strategy strategies) _ _ q)
-
-  pub wrong-scheduler : true ≡ rightLength (length pool) → 2 ≤ scheduler → OpenRest pool scheduler strategy 12 pool
+module _ (scheduler strategy : ℕ) where
+  pub scheduler-unknown : 2 ≤ scheduler → false ≡ knownSettings scheduler strategy
   unfolding schedulers
-  wrong-scheduler e h = settings-wrong e (ap (λ b. b && ltb strategy strategies) (le-ltb scheduler 2 h))
+  scheduler-unknown h = sym (ap (λ b. b && ltb strategy strategies) (le-ltb scheduler 2 h))
 
-  pub wrong-strategy : true ≡ rightLength (length pool) → scheduler < 2 → 2 ≤ strategy → OpenRest pool scheduler strategy 12 pool
+  pub strategy-decides : scheduler < 2 → ltb strategy 2 ≡ knownSettings scheduler strategy
   unfolding schedulers strategies
-  wrong-strategy e l h = settings-wrong e (ap₂ (λ a b. a && b) (lt-ltb scheduler 2 l) (le-ltb strategy 2 h))
+  strategy-decides h = sym (ap (λ b. b && ltb strategy 2) (lt-ltb scheduler 2 h))
 
-  pub opens : true ≡ rightLength (length pool) → scheduler < 2 → strategy < 2 → (after : Bytes) → after ≡ poolBytes limits (opened scheduler strategy (slotsIn limits (length pool)))
-      → OpenRest pool scheduler strategy 0 after
-  unfolding openRest outcome schedulers strategies
-  opens e l h after q =
-      let o = on (rightLength (length pool)) _ _ (sym e) ∙ on (ltb scheduler 2 && ltb strategy 2) _ _ (ap₂ (λ a b. a && b) (lt-ltb scheduler 2 l) (lt-ltb strategy 2 h)) in
+  pub settings-within : true ≡ knownSettings scheduler strategy → (scheduler < 2) × (strategy < 2)
+  unfolding schedulers strategies
+  settings-within e = go (ltb scheduler 2) (ltb strategy 2) refl refl (sym e)
+    where
+      go : (a b : Bool) → ltb scheduler 2 ≡ a → ltb strategy 2 ≡ b → a && b ≡ true → (scheduler < 2) × (strategy < 2)
+      go true true p q _ = (ltb-true scheduler 2 p, ltb-true strategy 2 q)
+      go true false p q e = absurd (let z : _≡_ {A = ℕ} 0 1 = cc in omega arith)
+      go false b p q e = absurd (let z : _≡_ {A = ℕ} 0 1 = cc in omega arith)
+
+module _ (pool : Bytes) (scheduler strategy n : ℕ) (e : n ≡ firstRefusal (rightLength (length pool)) (knownSettings scheduler strategy)) where
+  pub open-unfit : (n ≡ 0 → ⊥) → OpenRest pool scheduler strategy n pool
+  unfolding openRest outcome
+  open-unfit z =
+      let o : openRest pool scheduler strategy ≡ outcome n pool =
+      first-refuses (rightLength (length pool)) (knownSettings scheduler strategy) (λ k. outcome k pool) _ (λ q. z (e ∙ q)) ∙ ap (λ k. outcome k pool) (sym e) in
+      record { answers = ap (λ (x : Outcome). x .answer) (sym o); leaves = ap (λ (x : Outcome). x .pool) (sym o) }
+
+  pub open-fit : n ≡ 0 → (true ≡ rightLength (length pool)) × (true ≡ knownSettings scheduler strategy)
+  open-fit z = first-none (rightLength (length pool)) (knownSettings scheduler strategy) (sym e ∙ z)
+
+  pub opens : n ≡ 0 → (after : Bytes) → after ≡ poolBytes limits (opened scheduler strategy (slotsIn limits (length pool))) → OpenRest pool scheduler strategy 0 after
+  unfolding openRest outcome
+  opens z after q =
+      let f = open-fit z in
+      let o = on (rightLength (length pool)) _ _ (sym (f .0)) ∙ on (knownSettings scheduler strategy) _ _ (sym (f .1)) in
       record { answers = ap (λ (x : Outcome). x .answer) (sym o); leaves = q ∙ ap (λ (x : Outcome). x .pool) (sym o) }
 
 -- ---- the image

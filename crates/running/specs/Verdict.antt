@@ -22,6 +22,7 @@ use Rattle.demands.specs.Kept.{fits-roomy, sound-tidy, sound-image}
 use Rattle.texts.specs.Heads.{accepted}
 use Rattle.sheetparts.specs.Ways.{on, off}
 use Rattle.poolcheck.specs.Books.{PoolSound}
+use Rattle.openings.specs.Order.{firstRefusal, first-refuses, first-none}
 use Rattle.stepping.specs.Standing.{L, Standing, stepOf, Went}
 
 pub record ReadAs (text : Bytes) : Type 0 where
@@ -93,36 +94,40 @@ module _ (text p : Bytes) (bound number : ℕ) where
     unfolding soundly checked caseRead
     through f g = ap (λ (r : Read Book). caseRead r (λ k _. f k) (λ b _. if (rightLength (length p)) (λ _. if settings (λ _. if (sound limits b p) (λ _. g b (poolIn limits p)) (λ _. f 13)) (λ _. f 12)) (λ _. f 11))) q
 
-    pub verdict-length : false ≡ rightLength (length p) → Verdict text p bound number 11
-    verdict-length e = refused-by 11 (λ A f g. through f g ∙ off (rightLength (length p)) _ _ (sym e)) (λ z. omega arith)
+    module _ (n : ℕ) (e : n ≡ firstRefusal (rightLength (length p)) settings) where
+      pub verdict-unfit : (n ≡ 0 → ⊥) → Verdict text p bound number n
+      verdict-unfit z = refused-by n (λ A f g. through f g ∙ first-refuses (rightLength (length p)) settings f _ (λ q. z (e ∙ q)) ∙ ap f (sym e)) z
 
-    module _ (right : true ≡ rightLength (length p)) where
-      pub verdict-bound : false ≡ settings → Verdict text p bound number 12
-      verdict-bound e = refused-by 12 (λ A f g. through f g ∙ on (rightLength (length p)) _ _ (sym right) ∙ off settings _ _ (sym e)) (λ z. omega arith)
+      module _ (z : n ≡ 0) where
+        fit : (true ≡ rightLength (length p)) × (true ≡ settings)
+        fit = first-none (rightLength (length p)) settings (sym e ∙ z)
 
-      module _ (known : true ≡ settings) (r : Bool) (s : PoolSound text p r) where
-        sound-is : r ≡ sound limits b p
-        sound-is = s b (accepted text b end q)
+        pub right : T (rightLength (length p))
+        right = subst T (fit .0) tt
 
-        pub verdict-unsound : r ≡ false → Verdict text p bound number 13
-        verdict-unsound e = refused-by 13 (λ A f g. through f g ∙ on (rightLength (length p)) _ _ (sym right) ∙ on settings _ _ (sym known) ∙ off (sound limits b p) _ _ (sym sound-is ∙ e)) (λ z. omega arith)
+        module _ (r : Bool) (s : PoolSound text p r) where
+          sound-is : r ≡ sound limits b p
+          sound-is = s b (accepted text b end q)
 
-        module _ (e : r ≡ true) where
-          going : {A : Type 0} (f : ℕ → A) (g : Book → State → A) → soundly text p settings f g ≡ g b (poolIn limits p)
-          going f g = through f g ∙ on (rightLength (length p)) _ _ (sym right) ∙ on settings _ _ (sym known) ∙ on (sound limits b p) _ _ (sym sound-is ∙ e)
+          pub verdict-unsound : r ≡ false → Verdict text p bound number 13
+          verdict-unsound u = refused-by 13 (λ A f g. through f g ∙ on (rightLength (length p)) _ _ (sym (fit .0)) ∙ on settings _ _ (sym (fit .1)) ∙ off (sound limits b p) _ _ (sym sound-is ∙ u)) (λ z. omega arith)
 
-          stands : Standing text p
-          unfolding limits
-          stands =
-              let t : T (sound limits b p) = subst T (sym e ∙ sound-is) tt in
-              record { book = b; end = end; reads = q; state = poolIn limits p; tidy = sound-tidy b p t; roomy = fits-roomy p (subst T right tt); image = sym (sound-image b p t) }
+          module _ (u : r ≡ true) where
+            going : {A : Type 0} (f : ℕ → A) (g : Book → State → A) → soundly text p settings f g ≡ g b (poolIn limits p)
+            going f g = through f g ∙ on (rightLength (length p)) _ _ (sym (fit .0)) ∙ on settings _ _ (sym (fit .1)) ∙ on (sound limits b p) _ _ (sym sound-is ∙ u)
 
-          pub verdict-sound : Verdict text p bound number 0
-          unfolding stepCall runCall limits stands
-          verdict-sound = record {
-            refuses = λ z. absurd (z refl);
-            passes = λ _. record { standing = stands; steps = going (λ n. outcome n p) _; runs = λ budget. going (λ n. record { stop = n; steps = 0; pool = p }) _ };
-          }
+            stands : Standing text p
+            unfolding limits
+            stands =
+                let t : T (sound limits b p) = subst T (sym u ∙ sound-is) tt in
+                record { book = b; end = end; reads = q; state = poolIn limits p; tidy = sound-tidy b p t; roomy = fits-roomy p right; image = sym (sound-image b p t) }
+
+            pub verdict-sound : Verdict text p bound number 0
+            unfolding stepCall runCall limits stands
+            verdict-sound = record {
+              refuses = λ z. absurd (z refl);
+              passes = λ _. record { standing = stands; steps = going (λ n. outcome n p) _; runs = λ budget. going (λ n. record { stop = n; steps = 0; pool = p }) _ };
+            }
 
 -- ---- the step
 

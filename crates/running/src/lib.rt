@@ -2,6 +2,7 @@
 // steps until its budget is spent or a step refuses; what a step leaves is sound again, so nothing is checked twice.
 use book::check_book;
 use numbers::Checked;
+use openings::first_refusal;
 use openings::right_length;
 use poolcheck::pool_sound;
 use sheets::limits::FORM;
@@ -34,16 +35,16 @@ fn check_pool(book: &[u8], pool: &[u8], bound: u32, number: u32) -> u32
     requires { ⌜ ReadAs (now book) ⌝ }
     ensures { λ r. ⌜ Verdict (now (book .entry)) (now (pool .entry)) bound number r ⌝ }
 {
-    if right_length(pool.len()) {
-        if known_bound(bound, number) {
-            if pool_sound(book, pool) {
-                return 0;
-            }
-            return 13;
-        }
-        return 12;
+    let right = right_length(pool.len());
+    let known = known_bound(bound, number);
+    let n = first_refusal(right, known);
+    if n != 0 {
+        return n;
     }
-    11
+    if pool_sound(book, pool) {
+        return 0;
+    }
+    13
 }
 
 // 1 to 13; 0 if none holds.

@@ -6,7 +6,7 @@ use mathlib.Core.Bool.{Bool, true, false}
 use mathlib.Core.List.{List, []}
 use lib.ListN.{length}
 use lib.Dec.{T, ltb}
-use borrow.Author.Tests.{lt-ltb, le-ltb}
+use borrow.Author.Tests.{ltb-true}
 use Rattle.base.specs.Branch.{if, caseL}
 use Rattle.rules.specs.Book.{Book}
 use Rattle.rules.specs.Reading.{Bytes, Read, got, refused, caseRead, readBook}
@@ -20,6 +20,7 @@ use Rattle.sheetparts.specs.Tests.{byteAt}
 use Rattle.sheetparts.specs.Ways.{on, off}
 use Rattle.poolcheck.specs.Pools.{sound-frame}
 use Rattle.poolcheck.specs.Books.{right-slots, PoolSound}
+use Rattle.openings.specs.Order.{firstRefusal, first-refuses, first-none}
 use Rattle.takings.specs.Take.{takeFirst, takeGoing, takeRest, Took, took-by, took-is, Ready}
 
 -- A text that is read as a book.
@@ -34,31 +35,37 @@ is-book text b e q = record { book = b; ok = accepted text b e q }
 abbrev pub TookRest : Bytes → Bytes → ℕ → Bytes → ℕ → Bytes → Bytes → Type 0
 TookRest text pool list out answer after written = (b : Book) → Accepted text b → Took (takeRest b pool list out) answer after written
 
-module _ (text pool : Bytes) (list : ℕ) (out : Bytes) where
-  pub rest-length : false ≡ rightLength (length pool) → TookRest text pool list out 11 pool out
-  unfolding takeRest
-  rest-length e b ok = took-by _ _ _ _ _ (off (rightLength (length pool)) _ _ (sym e)) (took-is 11 pool out)
+module _ (text pool : Bytes) (list : ℕ) (out : Bytes) (n : ℕ) (e : n ≡ firstRefusal (rightLength (length pool)) (ltb list 2)) where
+  pub rest-unfit : (n ≡ 0 → ⊥) → TookRest text pool list out n pool out
+  unfolding takeRest lists
+  rest-unfit z b ok =
+      took-by _ _ _ _ _ (first-refuses (rightLength (length pool)) (ltb list 2) (λ k. takeOutcome k pool out) _ (λ q. z (e ∙ q)) ∙ ap (λ k. takeOutcome k pool out) (sym e)) (took-is n pool out)
 
-  module _ (right : true ≡ rightLength (length pool)) where
-    pub rest-list : 2 ≤ list → TookRest text pool list out 12 pool out
-    unfolding takeRest lists
-    rest-list h b ok = took-by _ _ _ _ _ (on (rightLength (length pool)) _ _ (sym right) ∙ off (ltb list 2) _ _ (le-ltb list 2 h)) (took-is 12 pool out)
+  module _ (z : n ≡ 0) where
+    fit : (true ≡ rightLength (length pool)) × (true ≡ ltb list 2)
+    fit = first-none (rightLength (length pool)) (ltb list 2) (sym e ∙ z)
 
-    module _ (h : list < 2) (r : Bool) (s : PoolSound text pool r) where
+    pub known-list : list < 2
+    known-list = ltb-true list 2 (sym (fit .1))
+
+    pub right : T (rightLength (length pool))
+    right = subst T (fit .0) tt
+
+    module _ (r : Bool) (s : PoolSound text pool r) where
       pub rest-unsound : r ≡ false → TookRest text pool list out 13 pool out
       unfolding takeRest lists
-      rest-unsound e b ok = took-by _ _ _ _ _ (on (rightLength (length pool)) _ _ (sym right) ∙ on (ltb list 2) _ _ (lt-ltb list 2 h) ∙ off (sound limits b pool) _ _ (sym (s b ok) ∙ e)) (took-is 13 pool out)
+      rest-unsound q b ok = took-by _ _ _ _ _ (on (rightLength (length pool)) _ _ (sym (fit .0)) ∙ on (ltb list 2) _ _ (sym (fit .1)) ∙ off (sound limits b pool) _ _ (sym (s b ok) ∙ q)) (took-is 13 pool out)
 
       pub rest-going : r ≡ true → (answer : ℕ) (after written : Bytes) → Took (takeGoing pool list out) answer after written → TookRest text pool list out answer after written
       unfolding takeRest lists
-      rest-going e answer after written t b ok =
-          took-by _ _ _ _ _ (on (rightLength (length pool)) _ _ (sym right) ∙ on (ltb list 2) _ _ (lt-ltb list 2 h) ∙ on (sound limits b pool) _ _ (sym (s b ok) ∙ e)) t
+      rest-going q answer after written t b ok =
+          took-by _ _ _ _ _ (on (rightLength (length pool)) _ _ (sym (fit .0)) ∙ on (ltb list 2) _ _ (sym (fit .1)) ∙ on (sound limits b pool) _ _ (sym (s b ok) ∙ q)) t
 
       pub ready : IsBook text → ((i : ℕ) → byteAt pool i < 256) → r ≡ true → Ready pool
-      ready g bytes e =
-          let q = right-slots (length pool) (subst T right tt) in
-          let f = sound-frame (g .book) pool ((length pool - 208) / 2128) (q .0) bytes (subst T (sym (sym (s (g .book) (g .ok)) ∙ e)) tt) in
-          record { slots = (length pool - 208) / 2128; long = q .0; frame = f .0; image = f .1 }
+      ready g bytes q =
+          let k = right-slots (length pool) right in
+          let f = sound-frame (g .book) pool ((length pool - 208) / 2128) (k .0) bytes (subst T (sym (sym (s (g .book) (g .ok)) ∙ q)) tt) in
+          record { slots = (length pool - 208) / 2128; long = k .0; frame = f .0; image = f .1 }
 
 -- ---- the promise
 

@@ -5,7 +5,7 @@ use Prim.Native.Nat.{ℕ, zero, suc, _+_, _-_, _*_, _/_, _%_, _≤_, _<_}
 use native.Mathlib.Omega.{arith}
 use mathlib.Core.Bool.{Bool, true, false, _&&_}
 use mathlib.Core.List.{List, [], _∷_, _++_, map, append-assoc}
-use lib.ListN.{length, getD, take, drop, set, replicate, length-append, length-map}
+use lib.ListN.{length, getD, take, drop, replicate, length-append, length-replicate}
 use lib.Seq.{take-at, drop-at, drop-drop, length-take-le}
 use lib.Dec.{T, ltb, ltb→lt}
 use borrow.Author.Tests.{lt-ltb, le-ltb}
@@ -31,7 +31,9 @@ use Rattle.sheetcheck.specs.Regions.{part-length}
 use Rattle.poolparts.specs.Tests.{rowAt, startOf, slotAt, inRange}
 use Rattle.poolcheck.specs.Heads.{Frame, list-row, list-length, head-size}
 use Rattle.poolcheck.specs.Pools.{slots-long, slots-are, sheet-is, again-size, pool-images}
-use Rattle.takings.specs.Moves.{cleared, shifted, shift-list, copied}
+use Rattle.heads.specs.Lists.{Few, Popped}
+use Rattle.octets.specs.Patch.{patched}
+use Rattle.takings.specs.Moves.{copied}
 
 -- ---- behind the book's check
 
@@ -62,12 +64,12 @@ took-is n p o = record { answers = refl; leaves = refl; writes = refl }
 
 -- ---- the list
 
--- Where a list stands, and its count.
+-- Where a list stands in the header, and its count.
 abbrev pub listPlace : ℕ → ℕ
-listPlace list = 80 + 64 * list
+listPlace list = 16 + 64 * (1 + list)
 
 abbrev pub countPlace : ℕ → ℕ
-countPlace list = 13 + list
+countPlace list = 12 + (1 + list)
 
 -- A pool in frame that is the image of what it says.
 pub record Ready (p : Bytes) : Type 0 where
@@ -105,9 +107,6 @@ module _ (p : Bytes) (r : Ready p) where
       let k : byteAt p (listPlace list) < r .slots = subst (λ a. byteAt p a < r .slots) e l in
       (k, omega (arith, r .long))
 
-  pub list-fits : (list : ℕ) → list < 2 → listPlace list + 64 ≤ length p
-  list-fits list h = omega (arith, r .long)
-
   abbrev rest : ℕ → List ℕ
   rest list = map (λ j. byteAt p (listPlace list + j)) (upTo 1 (byteAt p (countPlace list)))
 
@@ -120,14 +119,6 @@ module _ (p : Bytes) (r : Ready p) where
   first-is list h z =
       let e : listPlace list + 0 ≡ listPlace list = omega arith in
       list-is list h ∙ ap (map (λ j. byteAt p (listPlace list + j))) (up-next 0 (byteAt p (countPlace list)) (omega arith)) ∙ ap (λ (k : ℕ). byteAt p k ∷ rest list) e
-
-  rest-long : (list : ℕ) → length (rest list) ≡ byteAt p (countPlace list) - 1
-  unfolding upTo from
-  rest-long list = length-map (from 1 (byteAt p (countPlace list) - 1)) (λ j. byteAt p (listPlace list + j)) ∙ from-long 1 (byteAt p (countPlace list) - 1)
-    where
-      from-long : (a k : ℕ) → length (from a k) ≡ k
-      from-long a zero = refl
-      from-long a (suc k) = ap suc (from-long (suc a) k)
 
   -- ---- the bytes afterwards
 
@@ -145,8 +136,8 @@ module _ (p : Bytes) (r : Ready p) where
         (from-all (λ i. i < r .slots) 0 (r .slots - 0) (λ j _ h. omega arith)))
 
     -- A slot cleared is that slot freed.
-    cleared-is : (b : Book) (i : ℕ) → i < r .slots → cleared (startOf i) 2128 p ≡ poolHead s ++ flat (map (sheetBytes limits) (freed i (s .slots)))
-    unfolding cleared freed poolBytes limits sheetSize
+    cleared-is : (b : Book) (i : ℕ) → i < r .slots → patched (startOf i) (replicate 2128 0) p ≡ poolHead s ++ flat (map (sheetBytes limits) (freed i (s .slots)))
+    unfolding patched freed poolBytes limits sheetSize
     cleared-is b i h =
         let l : i < length (s .slots) = omega (arith, slots-long b p (r .slots) (r .long) bytes) in
         let before : Bytes = poolHead s ++ flat (map (sheetBytes limits) (take i (s .slots))) in
@@ -156,51 +147,15 @@ module _ (p : Bytes) (r : Ready p) where
         (table-before 2128 Sized (sheetBytes limits) (λ x q. q) (s .slots) i (omega arith) (all-sized b)) in
         let m : length here ≡ 2128 = all-getD Sized (s .slots) i blank l (all-sized b) in
         let w : p ≡ before ++ (here ++ behind) = sym (r .image) ∙ ap (λ (x : Bytes). poolHead s ++ x) (table-split (sheetBytes limits) (s .slots) i blank l) ∙ sym (append-assoc (poolHead s) _ (here ++ behind)) in
-        ap₂ (λ (x y : Bytes). x ++ (replicate 2128 0 ++ y)) (ap (take (startOf i)) w ∙ take-at before (here ++ behind) (startOf i) n)
+        append-assoc (take (startOf i) p) (replicate 2128 0) _ ∙ ap (λ n. take (startOf i) p ++ (replicate 2128 0 ++ drop (startOf i + n) p)) (length-replicate {A = ℕ} 2128 0)
+        ∙ ap₂ (λ (x y : Bytes). x ++ (replicate 2128 0 ++ y)) (ap (take (startOf i)) w ∙ take-at before (here ++ behind) (startOf i) n)
         (ap (drop (startOf i + 2128)) w ∙ sym (drop-drop 2128 (startOf i) (before ++ (here ++ behind))) ∙ ap (drop 2128) (drop-at before (here ++ behind) (startOf i) n) ∙ drop-at here behind 2128 m)
         ∙ ap (λ (x : Bytes). before ++ (x ++ behind)) (sym (blank-zero limits)) ∙ append-assoc (poolHead s) _ (sheetBytes limits blank ++ behind)
         ∙ ap (λ (x : Bytes). poolHead s ++ x) (sym (table-set (sheetBytes limits) (s .slots) i blank l))
 
--- ---- a head with a shorter list
-
-abbrev front : ℕ → ℕ → ℕ → ℕ → ℕ → ℕ → Bytes
-front sc st n w c b = 77 ∷ 68 ∷ 76 ∷ 1 ∷ 0 ∷ sc ∷ st ∷ 0 ∷ n % 65536 % 256 ∷ n % 65536 / 256 % 256 ∷ n / 65536 % 256 ∷ n / 65536 / 256 % 256 ∷ w ∷ c ∷ b ∷ 0 ∷ []
-
-head-parts : (s : State) (rest : Bytes) → poolHead s ++ rest
-    ≡ front (s .scheduler) (s .strategy) (s .next) (length (s .waiting)) (length (s .complete)) (length (s .bounded)) ++ (padded 64 (s .waiting) ++ (padded 64 (s .complete) ++ (padded 64 (s .bounded) ++ rest)))
-unfolding poolHead poolMark long word mostSlots
-head-parts s rest = simp append-assoc
-
-padded-long : (xs : List ℕ) → length xs ≤ 64 → length (padded 64 xs) ≡ 64
-padded-long xs h = Rattle.images.specs.Regions.padded-length 64 xs h
-
--- The list shifted and its count lowered, in the head before any slots.
-head-taken : (list : ℕ) (s : State) (slots : List Sheet) (i : ℕ) (is : List ℕ) (rest : Bytes) → list < 2 → listOf list s ≡ i ∷ is
-    → length (s .waiting) ≤ 64 → length (s .complete) ≤ 64 → length (s .bounded) ≤ 64
-    → set (shifted (listPlace list) (poolHead s ++ rest)) (countPlace list) (length is) ≡ poolHead (taken list s i is) ++ rest
-unfolding listOf taken changed
-head-taken zero s slots i is rest h e w c b =
-    let f = front (s .scheduler) (s .strategy) (s .next) (length (s .waiting)) (length (s .complete)) (length (s .bounded)) in
-    let n : length is < 64 = omega (arith, ap length e) in
-    let q : poolHead s ++ rest ≡ (f ++ padded 64 (s .waiting)) ++ (padded 64 (i ∷ is) ++ (padded 64 (s .bounded) ++ rest)) =
-    head-parts s rest ∙ ap (λ (l : List ℕ). f ++ (padded 64 (s .waiting) ++ (padded 64 l ++ (padded 64 (s .bounded) ++ rest)))) e ∙ sym (append-assoc f (padded 64 (s .waiting)) _) in
-    ap (λ (l : Bytes). set (shifted 80 l) 13 (length is)) q
-    ∙ ap (λ (l : Bytes). set l 13 (length is)) (shift-list (f ++ padded 64 (s .waiting)) (padded 64 (s .bounded) ++ rest) i is 80 (omega (arith, padded-long (s .waiting) w)) n)
-    ∙ append-assoc (front (s .scheduler) (s .strategy) (s .next) (length (s .waiting)) (length is) (length (s .bounded))) (padded 64 (s .waiting)) _
-    ∙ sym (head-parts (taken zero s i is) rest)
-head-taken (suc zero) s slots i is rest h e w c b =
-    let f = front (s .scheduler) (s .strategy) (s .next) (length (s .waiting)) (length (s .complete)) (length (s .bounded)) in
-    let n : length is < 64 = omega (arith, ap length e) in
-    let m : length (padded 64 (s .waiting) ++ padded 64 (s .complete)) ≡ 128 = length-append (padded 64 (s .waiting)) (padded 64 (s .complete)) ∙ omega (arith, padded-long (s .waiting) w, padded-long (s .complete) c) in
-    let q : poolHead s ++ rest ≡ (f ++ (padded 64 (s .waiting) ++ padded 64 (s .complete))) ++ (padded 64 (i ∷ is) ++ rest) =
-    head-parts s rest ∙ ap (λ (l : List ℕ). f ++ (padded 64 (s .waiting) ++ (padded 64 (s .complete) ++ (padded 64 l ++ rest)))) e
-    ∙ ap (λ (l : Bytes). f ++ l) (sym (append-assoc (padded 64 (s .waiting)) (padded 64 (s .complete)) _)) ∙ sym (append-assoc f (padded 64 (s .waiting) ++ padded 64 (s .complete)) _) in
-    ap (λ (l : Bytes). set (shifted 144 l) 14 (length is)) q
-    ∙ ap (λ (l : Bytes). set l 14 (length is)) (shift-list (f ++ (padded 64 (s .waiting) ++ padded 64 (s .complete))) rest i is 144 (omega (arith, m)) n)
-    ∙ append-assoc (front (s .scheduler) (s .strategy) (s .next) (length (s .waiting)) (length (s .complete)) (length is)) (padded 64 (s .waiting) ++ padded 64 (s .complete)) _
-    ∙ ap (λ (l : Bytes). front (s .scheduler) (s .strategy) (s .next) (length (s .waiting)) (length (s .complete)) (length is) ++ l) (append-assoc (padded 64 (s .waiting)) (padded 64 (s .complete)) _)
-    ∙ sym (head-parts (taken (suc zero) s i is) rest)
-head-taken (suc (suc list)) s slots i is rest h e w c b = absurd (omega arith)
+-- The slot is cleared before the list loses it.
+pub popped-behind : (j : ℕ) (p q after : Bytes) → q ≡ p → Popped j q after → Popped j p after
+popped-behind j p q after e pop lim s f g = pop lim s f (e ∙ g)
 
 -- ---- the ways out
 
@@ -231,21 +186,26 @@ module _ (p : Bytes) (r : Ready p) (list : ℕ) (out : Bytes) (h : list < 2) whe
       (omega (arith, list-length p 80 (byteAt p 13) (omega (arith, r .long))), omega (arith, list-length p 144 (byteAt p 14) (omega (arith, r .long)))),
     )
 
-    taken-slots : taken list now i (rest p r list) .slots ≡ freed i (now .slots)
-    unfolding taken changed
-    taken-slots = go list
-      where
-        go : (l : ℕ) → taken l now i (rest p r list) .slots ≡ freed i (now .slots)
-        go zero = refl
-        go (suc l) = refl
+    -- The state with the slot freed, before the list loses it.
+    abbrev emptied : State
+    emptied = changed now (now .next) (now .waiting) (now .complete) (now .bounded) (freed i (now .slots))
 
-    pool-after : (b : Book) → ((j : ℕ) → byteAt p j < 256) → set (shifted (listPlace list) (cleared (startOf i) 2128 p)) (countPlace list) (byteAt p (countPlace list) - 1)
-        ≡ poolBytes limits (taken list now i (rest p r list))
-    unfolding poolBytes
-    pool-after b bytes =
-        ap₂ (λ (l : Bytes) (n : ℕ). set (shifted (listPlace list) l) (countPlace list) n) (cleared-is p r bytes b i (first-fits p r list h z .0)) (sym (rest-long p r list))
-        ∙ head-taken list now (now .slots) i (rest p r list) _ h (first-is p r list h z) (counts-fit .0) (counts-fit .1 .0) (counts-fit .1 .1)
-        ∙ ap (λ (xs : List Sheet). poolHead (taken list now i (rest p r list)) ++ flat (map (sheetBytes limits) xs)) (sym taken-slots)
+    emptied-is : (b : Book) → ((j : ℕ) → byteAt p j < 256) → patched (startOf i) (replicate 2128 0) p ≡ poolBytes limits emptied
+    unfolding poolBytes poolHead changed
+    emptied-is b bytes = cleared-is p r bytes b i (first-fits p r list h z .0)
+
+    pool-after : (b : Book) → ((j : ℕ) → byteAt p j < 256) → (after : Bytes) → Popped (1 + list) (patched (startOf i) (replicate 2128 0) p) after
+        → after ≡ poolBytes limits (taken list now i (rest p r list))
+    unfolding listOf taken changed
+    pool-after b bytes after pop = go list h (first-is p r list h z) pop
+      where
+        few : Few emptied
+        few = record { waiting = counts-fit .0; complete = counts-fit .1 .0; bounded = counts-fit .1 .1 }
+
+        go : (l : ℕ) → l < 2 → listOf l now ≡ i ∷ rest p r list → Popped (1 + l) (patched (startOf i) (replicate 2128 0) p) after → after ≡ poolBytes limits (taken l now i (rest p r list))
+        go zero h e pop = pop limits emptied few (emptied-is b bytes) i (rest p r list) e
+        go (suc zero) h e pop = pop limits emptied few (emptied-is b bytes) i (rest p r list) e
+        go (suc (suc l)) h e pop = absurd (omega arith)
 
     sheet-after : (b : Book) → ((j : ℕ) → byteAt p j < 256) → part (startOf i) 2128 p ≡ sheetBytes limits (sheetAt now i)
     sheet-after b bytes =
@@ -253,14 +213,14 @@ module _ (p : Bytes) (r : Ready p) (list : ℕ) (out : Bytes) (h : list < 2) whe
         sym (pool-images b p (r .slots) (r .long) bytes (r .image) .1 i l) ∙ ap (sheetBytes limits) (sym (sheet-is b p (r .slots) (r .long) bytes i l))
 
     pub take-done : (b : Book) → ((j : ℕ) → byteAt p j < 256) → 2128 ≤ length out → (after written : Bytes)
-        → after ≡ set (shifted (listPlace list) (cleared (startOf i) 2128 p)) (countPlace list) (byteAt p (countPlace list) - 1) → written ≡ copied p (startOf i) 2128 out
+        → Popped (1 + list) (patched (startOf i) (replicate 2128 0) p) after → written ≡ copied p (startOf i) 2128 out
         → Took (takeGoing p list out) 0 after written
     unfolding takeFirst takeOutcome limits sheetSize copied
     take-done b bytes l after written e q =
         let o = first ∙ off (ltb (length out) 2128) _ _ (le-ltb (length out) 2128 l) in
         record {
           answers = ap (λ (x : TakeOutcome). x .answer) (sym o);
-          leaves = e ∙ pool-after b bytes ∙ ap (λ (x : TakeOutcome). x .pool) (sym o);
+          leaves = pool-after b bytes after e ∙ ap (λ (x : TakeOutcome). x .pool) (sym o);
           writes = q ∙ ap (λ (x : Bytes). x ++ drop 2128 out) (sheet-after b bytes) ∙ ap (λ (x : TakeOutcome). x .out) (sym o);
         }
 

@@ -5,7 +5,7 @@ use Rattle.adopting.proofs.free_base.Statement.{statement}
 use Rattle.adopting.proofs.free_base.Tie as tie
 use Rattle.adopting.proofs.free_base.Reads as reads
 use Rattle.adopting.proofs.free_base.Lts as lts
-use Rattle.adopting.proofs.clear_slot.Reads as clear-slot-reads
+use Rattle.heads.proofs.clear_slot.Reads as clear-slot-reads
 use Rattle.lists.proofs.forget.Reads as forget-reads
 
 -- src/lib.rt:31:5

@@ -1,172 +1,34 @@
-use native.Mathlib.Omega.{arith}
+-- A pop, then a push.
+use Rattle.lists.specs.Moves.{finished}
 use borrow.Author.Needs.{needs}
-use mathlib.Core.Path.{_≡_, refl, ap, _∙_}
-use Prim.Native.Nat.{_≤_}
-use lib.ListN.{length, length-set}
-use Rattle.lists.specs.Moves.{fronts, finish-none, finish-full, finish-out}
 use Rattle.lists.proofs.finish.Statement.{statement}
 use Rattle.lists.proofs.finish.Tie as tie
 use Rattle.lists.proofs.finish.Reads as reads
 use Rattle.lists.proofs.finish.Lts as lts
-use Rattle.heads.proofs.store_head.Reads as store-head-reads
-use Rattle.lists.proofs.load_list.Reads as load-list-reads
-use Rattle.lists.proofs.next_number.Reads as next-number-reads
+use Rattle.heads.proofs.pop.Reads as pop-reads
+use Rattle.heads.proofs.push_back.Reads as push-back-reads
+use Rattle.octets.proofs.byte.Reads as byte-reads
 
--- src/lib.rt:93:38
-slice-aggregate-load-list : tie.Need-slice-aggregate-load-list
-slice-aggregate-load-list c = search needs
+-- src/lib.rt:96:9
+byte-requires : tie.Need-byte-requires
+byte-requires c κs = search needs
 
--- src/lib.rt:93:9
-load-list-requires : tie.Need-load-list-requires
-load-list-requires c κs = search needs
+-- src/lib.rt:97:5
+pop-requires : tie.Need-pop-requires
+pop-requires c κs = search needs
 
--- src/lib.rt:94:38
-slice-aggregate-load-list-2 : tie.Need-slice-aggregate-load-list-2
-slice-aggregate-load-list-2 c = search needs
+-- src/lib.rt:98:5
+push-back-requires : tie.Need-push-back-requires
+push-back-requires c κs = search needs
 
--- src/lib.rt:94:9
-load-list-requires-2 : tie.Need-load-list-requires-2
-load-list-requires-2 c κs = search needs
-
--- src/lib.rt:95:39
-slice-aggregate-load-list-3 : tie.Need-slice-aggregate-load-list-3
-slice-aggregate-load-list-3 c = search needs
-
--- src/lib.rt:95:9
-load-list-requires-3 : tie.Need-load-list-requires-3
-load-list-requires-3 c κs = search needs
-
--- src/lib.rt:97:9
+-- src/lib.rt:92:1
 same-length : tie.Need-same-length
 same-length c = search needs
 
--- src/lib.rt:97:9
+-- src/lib.rt:92:1
 returns : tie.Need-returns
-returns c =
-    let l₁ = c .before .before .before .before .before .before .before .before .before .before in
-    let l₂ = c .before .before .before .before .before .before in
-    let l₃ = c .before .before in
-    let s = c .before .before .before .before .before .before .before .before .before .before .before .before .before .before in
-    let f = fronts (s .args .pool .now) (l₁ .load-list .last .1 .1 .1 .0) (l₂ .load-list2 .last .1 .1 .1 .0) (l₃ .load-list3 .last .1 .1 .1 .0) (l₁ .load-list .result) (l₂ .load-list2 .result) (l₃ .load-list3 .result) (l₁ .load-list .ensures .1) (l₂ .load-list2 .ensures .1) (l₃ .load-list3 .ensures .1) (search needs, (search needs, search needs)) in
-    finish-none (s .args .pool .now) _ _ _ _ _ _ f (c .if1 .taken)
-
--- src/lib.rt:100:9
-same-length-2 : tie.Need-same-length-2
-same-length-2 c = search needs
-
--- src/lib.rt:100:9
-returns-2 : tie.Need-returns-2
-returns-2 c =
-    let l₁ = c .before .before .before .before .before .before .before .before .before .before .before in
-    let l₂ = c .before .before .before .before .before .before .before in
-    let l₃ = c .before .before .before in
-    let s = c .before .before .before .before .before .before .before .before .before .before .before .before .before .before .before in
-    let f = fronts (s .args .pool .now) (l₁ .load-list .last .1 .1 .1 .0) (l₂ .load-list2 .last .1 .1 .1 .0) (l₃ .load-list3 .last .1 .1 .1 .0) (l₁ .load-list .result) (l₂ .load-list2 .result) (l₃ .load-list3 .result) (l₁ .load-list .ensures .1) (l₂ .load-list2 .ensures .1) (l₃ .load-list3 .ensures .1) (search needs, (search needs, search needs)) in
-    finish-full (s .args .pool .now) _ _ _ _ _ _ f (c .if2 .taken)
-
--- src/lib.rt:102:13
-array-read-c : tie.Need-array-read-c
-array-read-c c = search needs
-
--- src/lib.rt:102:5
-mul-c : tie.Need-mul-c
-mul-c c = search needs
-
--- src/lib.rt:102:5
-array-write-c : tie.Need-array-write-c
-array-write-c c = search needs
-
--- src/lib.rt:103:13
-add-k : tie.Need-add-k
-add-k c = search needs
-
--- src/lib.rt:104:9
-next-number-requires : tie.Need-next-number-requires
-next-number-requires c κs = search needs
-
--- src/lib.rt:105:28
-sub-store-head : tie.Need-sub-store-head
-sub-store-head c = search needs
-
--- src/lib.rt:105:28
-part-store-head-start : tie.Need-part-store-head-start
-part-store-head-start c = search needs
-
--- src/lib.rt:105:28
-part-store-head-end : tie.Need-part-store-head-end
-part-store-head-end c = search needs
-
--- src/lib.rt:105:39
-sub-store-head-2 : tie.Need-sub-store-head-2
-sub-store-head-2 c = search needs
-
--- src/lib.rt:105:39
-part-store-head-start-2 : tie.Need-part-store-head-start-2
-part-store-head-start-2 c = search needs
-
--- src/lib.rt:105:39
-part-store-head-end-2 : tie.Need-part-store-head-end-2
-part-store-head-end-2 c = simp length-set (search needs)
-
--- src/lib.rt:105:49
-sub-store-head-3 : tie.Need-sub-store-head-3
-sub-store-head-3 c = search needs
-
--- src/lib.rt:105:49
-part-store-head-start-3 : tie.Need-part-store-head-start-3
-part-store-head-start-3 c = search needs
-
--- src/lib.rt:105:49
-part-store-head-end-3 : tie.Need-part-store-head-end-3
-part-store-head-end-3 c = search needs
-
--- src/lib.rt:105:5
-store-head-requires : tie.Need-store-head-requires
-store-head-requires c κs = search needs
-
--- src/lib.rt:86:1
-same-length-3 : tie.Need-same-length-3
-same-length-3 c = search needs
-
--- src/lib.rt:86:1
-returns-3 : tie.Need-returns-3
-returns-3 c =
-    let l₁ = c .before .before .before .before .before .before .before .before .before .before .before .before .before .before .before .before .before .before .before .before .before .before .before in
-    let l₂ = c .before .before .before .before .before .before .before .before .before .before .before .before .before .before .before .before .before .before .before in
-    let l₃ = c .before .before .before .before .before .before .before .before .before .before .before .before .before .before .before in
-    let s = c .before .before .before .before .before .before .before .before .before .before .before .before .before .before .before .before .before .before .before .before .before .before .before .before .before .before .before in
-    let f = fronts (s .args .pool .now) (l₁ .load-list .last .1 .1 .1 .0) (l₂ .load-list2 .last .1 .1 .1 .0) (l₃ .load-list3 .last .1 .1 .1 .0) (l₁ .load-list .result) (l₂ .load-list2 .result) (l₃ .load-list3 .result) (l₁ .load-list .ensures .1) (l₂ .load-list2 .ensures .1) (l₃ .load-list3 .ensures .1) (search needs, (search needs, search needs)) in
-    let h = c .before .before in
-    finish-out (s .args .pool .now) _ _ _ _ _ _ f _ (h .before .before .before .before .before .before .before .before .next-number .ensures .0) _ _ _ _ (h .store-head .ensures) (omega arith) refl refl refl
+returns c = finished (c .before .before .before .before .before .before .before .before .before .before .before .args .pool .now) _ _ _ (c .before .before .before .before .before .before .before .before .byte .ensures .0) (c .before .before .before .before .before .before .pop .ensures) (c .before .before .push-back .ensures)
 
 pub finish-spec : {M : Type 1} → statement M
 finish-spec =
-    tie.close
-    (tie.spec
-    slice-aggregate-load-list
-    load-list-requires
-    slice-aggregate-load-list-2
-    load-list-requires-2
-    slice-aggregate-load-list-3
-    load-list-requires-3
-    same-length
-    returns
-    same-length-2
-    returns-2
-    array-read-c
-    mul-c
-    array-write-c
-    add-k
-    next-number-requires
-    sub-store-head
-    part-store-head-start
-    part-store-head-end
-    sub-store-head-2
-    part-store-head-start-2
-    part-store-head-end-2
-    sub-store-head-3
-    part-store-head-start-3
-    part-store-head-end-3
-    store-head-requires
-    same-length-3
-    returns-3)
+    tie.close (tie.spec byte-requires pop-requires push-back-requires same-length returns)

@@ -1,54 +1,55 @@
--- `give` meets its contract: each way out by its law.
-use mathlib.Core.Path.{ap, _∙_}
-use Prim.Native.Nat.{_-_}
-use native.Mathlib.Omega.{arith}
-use lib.ListN.{set, length-set}
-use Rattle.takings.specs.Moves.{shifted}
+-- Copied, cleared, and gone from its list.
+use Rattle.takings.specs.Take.{popped-behind}
 use borrow.Author.Needs.{needs}
 use Rattle.takings.proofs.give.Statement.{statement}
 use Rattle.takings.proofs.give.Tie as tie
+use Rattle.takings.proofs.give.Reads as reads
+use Rattle.takings.proofs.give.Lts as lts
+use Rattle.heads.proofs.clear_slot.Reads as clear-slot-reads
+use Rattle.heads.proofs.pop.Reads as pop-reads
+use Rattle.takings.proofs.copy_slot.Reads as copy-slot-reads
 
+-- src/lib.rt:41:27
+mul-copy-slot : tie.Need-mul-copy-slot
+mul-copy-slot c = search needs
+
+-- src/lib.rt:41:21
+add-copy-slot : tie.Need-add-copy-slot
+add-copy-slot c = search needs
+
+-- src/lib.rt:41:5
 copy-slot-requires : tie.Need-copy-slot-requires
 copy-slot-requires c κs = search needs
 
+-- src/lib.rt:42:5
 clear-slot-requires : tie.Need-clear-slot-requires
 clear-slot-requires c κs = search needs
 
-shift-list-requires : tie.Need-shift-list-requires
-shift-list-requires c κs = search needs
+-- src/lib.rt:43:5
+pop-requires : tie.Need-pop-requires
+pop-requires c κs = search needs
 
-sub-pool : tie.Need-sub-pool
-sub-pool c = search needs
-
-cast-pool : tie.Need-cast-pool
-cast-pool c = search needs
-
-slice-write-pool : tie.Need-slice-write-pool
-slice-write-pool c = search needs
-
+-- src/lib.rt:37:1
 same-length : tie.Need-same-length
-same-length c = simp length-set (omega arith)
+same-length c = search needs
 
+-- src/lib.rt:37:1
 same-length-2 : tie.Need-same-length-2
 same-length-2 c = search needs
 
+-- src/lib.rt:37:1
 returns : tie.Need-returns
-returns c =
-    let t = c .before .before in
-    let e = t .before .before .before .before in
-    let s = e .before .before .before .before .before .before .before .before .before in
-    (ap (λ x. set x (s .args .k) (s .args .n - 1)) (t .shift-list .ensures ∙ ap (shifted (s .args .at)) (e .clear-slot .ensures)), e .before .before .before .before .copy-slot .ensures)
+returns c = (popped-behind (c .before .before .before .before .before .before .before .before .before .before .before .before .before .before .before .args .j) _ _ _ (c .before .before .before .before .before .before .clear-slot .ensures) (c .before .before .pop .ensures), c .before .before .before .before .before .before .before .before .before .before .copy-slot .ensures)
 
 pub give-spec : {M : Type 1} → statement M
 give-spec =
     tie.close
     (tie.spec
+    mul-copy-slot
+    add-copy-slot
     copy-slot-requires
     clear-slot-requires
-    shift-list-requires
-    sub-pool
-    cast-pool
-    slice-write-pool
+    pop-requires
     same-length
     same-length-2
     returns)

@@ -1,66 +1,81 @@
 -- `take_checked` meets its contract: each way out by its law.
-use mathlib.Core.Path.{sym, _∙_}
-use Rattle.openings.specs.Open.{right-true}
-use Rattle.takings.specs.Calls.{rest-length, rest-list, rest-unsound, rest-going, ready}
+use mathlib.Core.Path.{ap, _∙_}
+use lib.Dec.{ltb}
+use Rattle.openings.specs.Order.{firstRefusal}
+use Rattle.takings.specs.Calls.{rest-unfit, right, ready, known-list, rest-going, rest-unsound}
 use borrow.Author.Needs.{needs}
 use Rattle.takings.proofs.take_checked.Statement.{statement}
 use Rattle.takings.proofs.take_checked.Tie as tie
+use Rattle.takings.proofs.take_checked.Reads as reads
+use Rattle.takings.proofs.take_checked.Lts as lts
+use Rattle.openings.proofs.first_refusal.Reads as first-refusal-reads
+use Rattle.openings.proofs.right_length.Reads as right-length-reads
+use Rattle.poolcheck.proofs.pool_sound.Reads as pool-sound-reads
+use Rattle.takings.proofs.take_sound.Reads as take-sound-reads
 
+-- src/lib.rt:87:9
 right-length-requires : tie.Need-right-length-requires
 right-length-requires c κs = search needs
 
+-- src/lib.rt:88:9
+first-refusal-requires : tie.Need-first-refusal-requires
+first-refusal-requires c κs = search needs
+
+-- src/lib.rt:90:9
 returns : tie.Need-returns
 returns c =
-    let s = c .before .before .before .before .before .before .args in
-    rest-list (s .book .now) (s .pool .now) _ (s .out .now) (sym (c .before .if1 .taken) ∙ c .before .before .right-length .ensures) (c .if2 .taken)
+    let s = c .before .before .before .before .before .before in
+    let a = s .args in
+    rest-unfit (a .book .now) (a .pool .now) (a .list) (a .out .now) _ (c .before .first-refusal .ensures ∙ ap (λ r. firstRefusal r (ltb (a .list) 2)) (c .before .before .right-length .ensures)) (c .if1 .taken)
 
+-- src/lib.rt:92:8
 pool-sound-requires : tie.Need-pool-sound-requires
-pool-sound-requires c κs = right-true _ (sym (c .before .before .if1 .taken) ∙ c .before .before .before .right-length .ensures)
+pool-sound-requires c κs =
+    let s = c .before .before .before .before .before .before .before in
+    let a = s .args in
+    right (a .book .now) (a .pool .now) (a .list) (a .out .now) _ (c .before .before .first-refusal .ensures ∙ ap (λ r. firstRefusal r (ltb (a .list) 2)) (c .before .before .before .right-length .ensures)) (c .before .if1 .left)
 
+-- src/lib.rt:93:9
 take-sound-requires : tie.Need-take-sound-requires
 take-sound-requires c κs =
-    let q = c .before .before .before in
-    let t = q .before .before in
-    let r = t .before .before in
-    let s = r .before .before .before .before in
-    (ready (s .args .book .now) (s .args .pool .now) (s .args .list) (s .args .out .now) (sym (t .before .if1 .taken) ∙ r .right-length .ensures) (t .if2 .left) _ (q .pool-sound .ensures) (s .pre) (λ j. r .before .before .slice-known .given j .fits) (c .before .before .if3 .taken), t .if2 .left)
+    let s = c .before .before .before .before .before .before .before .before .before .before .before in
+    let a = s .args in
+    let e = (c .before .before .before .before .before .before .first-refusal .ensures ∙ ap (λ r. firstRefusal r (ltb (a .list) 2)) (c .before .before .before .before .before .before .before .right-length .ensures)) in
+    let z = c .before .before .before .before .before .if1 .left in
+    (ready (a .book .now) (a .pool .now) (a .list) (a .out .now) _ e z _ (c .before .before .before .pool-sound .ensures) (s .pre) (λ j. c .before .before .before .before .before .before .before .before .before .slice-known .given j .fits) (c .before .before .if2 .taken), known-list (a .book .now) (a .pool .now) (a .list) (a .out .now) _ e z)
 
+-- src/lib.rt:93:9
 same-length : tie.Need-same-length
 same-length c = search needs
 
+-- src/lib.rt:93:9
 same-length-2 : tie.Need-same-length-2
 same-length-2 c = search needs
 
+-- src/lib.rt:93:9
 returns-2 : tie.Need-returns-2
 returns-2 c =
-    let k = c .before .before .before .before in
-    let q = k .before .before .before .before in
-    let t = q .before .before in
-    let r = t .before .before in
-    let s = r .before .before .before .before in
-    rest-going (s .args .book .now) (s .args .pool .now) (s .args .list) (s .args .out .now) (sym (t .before .if1 .taken) ∙ r .right-length .ensures) (t .if2 .left) _ (q .pool-sound .ensures) (k .before .before .before .if3 .taken) _ _ _ (k .take-sound .ensures)
+    let s = c .before .before .before .before .before .before .before .before .before .before .before .before .before .before .before .before in
+    let a = s .args in
+    rest-going (a .book .now) (a .pool .now) (a .list) (a .out .now) _ (c .before .before .before .before .before .before .before .before .before .before .before .first-refusal .ensures ∙ ap (λ r. firstRefusal r (ltb (a .list) 2)) (c .before .before .before .before .before .before .before .before .before .before .before .before .right-length .ensures)) (c .before .before .before .before .before .before .before .before .before .before .if1 .left) _ (c .before .before .before .before .before .before .before .before .pool-sound .ensures) (c .before .before .before .before .before .before .before .if2 .taken) _ _ _ (c .before .before .before .before .take-sound .ensures)
 
+-- src/lib.rt:83:1
 same-length-3 : tie.Need-same-length-3
 same-length-3 c = search needs
 
+-- src/lib.rt:83:1
 returns-3 : tie.Need-returns-3
 returns-3 c =
-    let q = c .before in
-    let t = q .before .before in
-    let r = t .before .before in
-    let s = r .before .before .before .before in
-    rest-unsound (s .args .book .now) (s .args .pool .now) (s .args .list) (s .args .out .now) (sym (t .before .if1 .taken) ∙ r .right-length .ensures) (t .if2 .left) _ (q .pool-sound .ensures) (c .if3 .left)
-
-returns-4 : tie.Need-returns-4
-returns-4 c =
-    let s = c .before .before .before .before .before .args in
-    rest-length (s .book .now) (s .pool .now) _ (s .out .now) (sym (c .if1 .left) ∙ c .before .right-length .ensures)
+    let s = c .before .before .before .before .before .before .before .before .before in
+    let a = s .args in
+    rest-unsound (a .book .now) (a .pool .now) (a .list) (a .out .now) _ (c .before .before .before .before .first-refusal .ensures ∙ ap (λ r. firstRefusal r (ltb (a .list) 2)) (c .before .before .before .before .before .right-length .ensures)) (c .before .before .before .if1 .left) _ (c .before .pool-sound .ensures) (c .if2 .left)
 
 pub take-checked-spec : {M : Type 1} → statement M
 take-checked-spec =
     tie.close
     (tie.spec
     right-length-requires
+    first-refusal-requires
     returns
     pool-sound-requires
     take-sound-requires
@@ -68,5 +83,4 @@ take-checked-spec =
     same-length-2
     returns-2
     same-length-3
-    returns-3
-    returns-4)
+    returns-3)

@@ -5,11 +5,11 @@ use mathlib.Core.Path.{_≡_, ap, _∙_}
 use Prim.Native.Nat.{_+_, _-_, _*_, _≤_}
 use lib.ListN.{length, take, drop, replicate}
 use Rattle.octets.specs.Patch.{patched, patched-part}
-use Rattle.adopting.proofs.clear_slot.Statement.{statement}
-use Rattle.adopting.proofs.clear_slot.Tie as tie
-use Rattle.adopting.proofs.clear_slot.Reads as reads
-use Rattle.adopting.proofs.clear_slot.Lts as lts
-use Rattle.openings.proofs.clear.Reads as clear-reads
+use Rattle.heads.proofs.clear_slot.Statement.{statement}
+use Rattle.heads.proofs.clear_slot.Tie as tie
+use Rattle.heads.proofs.clear_slot.Reads as reads
+use Rattle.heads.proofs.clear_slot.Lts as lts
+use Rattle.heads.proofs.clear.Reads as clear-reads
 
 -- src/lib.rt:20:21
 mul-size : tie.Need-mul-size

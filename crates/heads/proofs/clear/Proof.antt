@@ -6,8 +6,8 @@ use native.Mathlib.Omega.{arith}
 use borrow.Author.Fill.{fill-none, fill-more}
 use lib.ListN.{length, drop, replicate, length-set}
 use lib.Seq.{drop-length}
-use Rattle.openings.proofs.clear.Statement.{statement}
-use Rattle.openings.proofs.clear.Tie as tie
+use Rattle.heads.proofs.clear.Statement.{statement}
+use Rattle.heads.proofs.clear.Tie as tie
 
 abbrev Inv-loop : tie.InvT-loop
 Inv-loop s₀ i₀ s i = (i ≤ length s₀) × ((length s ≡ length s₀) × (s ≡ replicate i 0 ++ drop i s₀))

@@ -1,66 +1,69 @@
+-- Four bytes written.
 use mathlib.Core.Path.{refl}
 use native.Mathlib.Omega.{arith}
 use lib.ListN.{length-set}
+use Rattle.lists.specs.Moves.{counts-on}
 use borrow.Author.Needs.{needs}
-use Rattle.heads.specs.Head.{numbered}
-use Rattle.heads.proofs.store_counts.Statement.{statement}
-use Rattle.heads.proofs.store_counts.Tie as tie
-use Rattle.heads.proofs.store_counts.Reads as reads
-use Rattle.heads.proofs.store_counts.Lts as lts
+use Rattle.lists.proofs.count_on.Statement.{statement}
+use Rattle.lists.proofs.count_on.Tie as tie
+use Rattle.lists.proofs.count_on.Reads as reads
+use Rattle.lists.proofs.count_on.Lts as lts
+use Rattle.lists.proofs.next_number.Reads as next-number-reads
 
+-- src/lib.rt:82:16
+next-number-requires : tie.Need-next-number-requires
+next-number-requires c κs = search needs
+
+-- src/lib.rt:82:16
+add-next : tie.Need-add-next
+add-next c = search needs
+
+-- src/lib.rt:85:15
 cast-pool : tie.Need-cast-pool
 cast-pool c = search needs
 
+-- src/lib.rt:85:5
 slice-write-pool : tie.Need-slice-write-pool
 slice-write-pool c = search needs
 
+-- src/lib.rt:86:15
 cast-pool-2 : tie.Need-cast-pool-2
 cast-pool-2 c = search needs
 
+-- src/lib.rt:86:5
 slice-write-pool-2 : tie.Need-slice-write-pool-2
 slice-write-pool-2 c = simp length-set (omega arith)
 
+-- src/lib.rt:87:16
 cast-pool-3 : tie.Need-cast-pool-3
 cast-pool-3 c = search needs
 
+-- src/lib.rt:87:5
 slice-write-pool-3 : tie.Need-slice-write-pool-3
 slice-write-pool-3 c = simp length-set (omega arith)
 
+-- src/lib.rt:88:16
 cast-pool-4 : tie.Need-cast-pool-4
 cast-pool-4 c = search needs
 
+-- src/lib.rt:88:5
 slice-write-pool-4 : tie.Need-slice-write-pool-4
 slice-write-pool-4 c = simp length-set (omega arith)
 
-cast-pool-5 : tie.Need-cast-pool-5
-cast-pool-5 c = search needs
-
-slice-write-pool-5 : tie.Need-slice-write-pool-5
-slice-write-pool-5 c = simp length-set (omega arith)
-
-cast-pool-6 : tie.Need-cast-pool-6
-cast-pool-6 c = search needs
-
-slice-write-pool-6 : tie.Need-slice-write-pool-6
-slice-write-pool-6 c = simp length-set (omega arith)
-
-cast-pool-7 : tie.Need-cast-pool-7
-cast-pool-7 c = search needs
-
-slice-write-pool-7 : tie.Need-slice-write-pool-7
-slice-write-pool-7 c = simp length-set (omega arith)
-
+-- src/lib.rt:78:1
 same-length : tie.Need-same-length
 same-length c = search needs
 
+-- src/lib.rt:78:1
 returns : tie.Need-returns
-unfolding numbered
-returns c = refl
+returns c = counts-on (c .before .before .before .args .pool .now) _ (c .next-number .ensures .0) _ refl
 
-pub store-counts-spec : {M : Type 1} → statement M
-store-counts-spec =
+pub count-on-spec : {M : Type 1} → statement M
+count-on-spec =
     tie.close
     (tie.spec
+    next-number-requires
+    add-next
     cast-pool
     slice-write-pool
     cast-pool-2
@@ -69,11 +72,5 @@ store-counts-spec =
     slice-write-pool-3
     cast-pool-4
     slice-write-pool-4
-    cast-pool-5
-    slice-write-pool-5
-    cast-pool-6
-    slice-write-pool-6
-    cast-pool-7
-    slice-write-pool-7
     same-length
     returns)

@@ -4,9 +4,9 @@ use Prim.Native.Nat.{_≤_, _-_, _+_}
 use mathlib.Core.Path.{_≡_, refl, ap, _∙_}
 use native.Mathlib.Omega.{arith}
 use lib.ListN.{length, set, length-set}
-use Rattle.takings.specs.Moves.{moved, moved-none, moved-next, moved-more, moved-last}
-use Rattle.takings.proofs.shift_list.Statement.{statement}
-use Rattle.takings.proofs.shift_list.Tie as tie
+use Rattle.heads.specs.Shift.{moved, moved-none, moved-next, moved-more, moved-last}
+use Rattle.heads.proofs.move_down.Statement.{statement}
+use Rattle.heads.proofs.move_down.Tie as tie
 
 abbrev Inv-loop : tie.InvT-loop
 Inv-loop pool₀ at j₀ pool j = (j ≤ 63) × ((length pool ≡ length pool₀) × (pool ≡ moved pool₀ at j))
@@ -62,8 +62,8 @@ returns c =
     let e : l .loop .j ≡ 63 = omega arith in
     ap (λ x. set x (s .at + 63) 0) (l .loop .inv .1 .1 ∙ ap (λ k. moved (s .pool .now) (s .at) k) e) ∙ moved-last (s .pool .now) (s .at) (l .before .pre .1)
 
-pub shift-list-spec : {M : Type 1} → statement M
-shift-list-spec =
+pub move-down-spec : {M : Type 1} → statement M
+move-down-spec =
     tie.close
     (tie.spec
     Inv-loop
