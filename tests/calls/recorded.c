@@ -17,8 +17,7 @@ static int digit(char c)
     return c >= 'a' && c <= 'f' ? c - 'a' + 10 : -1;
 }
 
-/* The bytes of hex digits, up to the first character that is none. */
-static struct bytes unhex(const char *text)
+struct bytes recorded_bytes(const char *text)
 {
     struct bytes bytes = {malloc(strlen(text) / 2 + 1), 0};
     while (bytes.at && digit(text[0]) >= 0 && digit(text[1]) >= 0) {
@@ -50,7 +49,7 @@ static int add_pool(size_t len)
 /* Some bytes of the last pool. */
 static int fill_pool(size_t offset, const char *text)
 {
-    const struct bytes some = unhex(text);
+    const struct bytes some = recorded_bytes(text);
     const struct bytes last = recorded_pool_count ? recorded_pools[recorded_pool_count - 1] : (struct bytes){NULL, 0};
     const int fits = some.at && offset <= last.len && some.len <= last.len - offset;
     if (fits)
@@ -86,15 +85,15 @@ static int read_line(const char *line)
     unsigned byte = 0;
     int used = 0;
     if (sscanf(line, "input %n", &used) == 0 && used > 0) {
-        struct bytes input = unhex(line + used);
+        struct bytes input = recorded_bytes(line + used);
         if (input.len < 8)
             return 1;
         return add_book((struct bytes){input.at + 8, input.len - 8});
     }
     if (sscanf(line, "book %n", &used) == 0 && used > 0)
-        return add_book(unhex(line + used));
+        return add_book(recorded_bytes(line + used));
     if (sscanf(line, "refusal %*u %*u %n", &used) == 0 && used > 0)
-        return add_book(unhex(line + used));
+        return add_book(recorded_bytes(line + used));
     if (sscanf(line, "length %zu", &number) == 1)
         return add_pool(number);
     if (sscanf(line, "at %zu %n", &number, &used) == 1 && used > 0)

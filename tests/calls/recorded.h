@@ -17,6 +17,9 @@ extern struct bytes recorded_books[RECORDED_MOST], recorded_pools[RECORDED_MOST]
 extern size_t recorded_book_of[RECORDED_MOST];
 extern size_t recorded_book_count, recorded_pool_count;
 
+/* The bytes of hex digits, up to the first character that is none; at is NULL when there is no memory. */
+struct bytes recorded_bytes(const char *text);
+
 /* Reads one more file; answers 0 when that cannot be done. */
 int recorded_read(const char *name);
 

@@ -5,8 +5,8 @@ use std::slice::{from_raw_parts, from_raw_parts_mut};
 
 #[repr(C)]
 pub struct Ran {
-    stop: u32,
-    steps: u32,
+    pub stop: u32,
+    pub steps: u32,
 }
 
 /// # Safety

@@ -1,13 +1,15 @@
-/* speed.c: the exported calls and the reference in one program, in turns on the same bytes; after every pair of calls
- * the answers and the pools are held to each other. Times are those of the processor, so that other programs on the
+/* speed.c: the exported calls (where EXPORTED is defined), the reference, and the published Rust (where PUBLISHED is) in one
+ * program, in turns on the same books; after every round of calls the answers and the pools are held to each other, and the
+ * models of the published Rust to what the pool says. Times are those of the processor, so that other programs on the
  * machine count for little.
  *
- *   speed ROUNDS LISTINGS
+ *   speed ROUNDS ELEMENTS LISTINGS
  *
- * Choices: a book that makes ELEMENTS elements and then has one sequent of four variables that fires at none of its
- * ELEMENTS^4 choices; the step that finds this out is timed. Steps: the recorded inputs of the listing program, each
- * opened in twelve slots; a run of 1,000 steps is timed, and then the same steps made one by one, where each call
- * checks book and pool anew. */
+ * Choices: a book that makes so many elements and then has one sequent of four variables that fires at none of its
+ * elements^4 choices; the step that finds this out is timed. Steps: the recorded inputs of the listing program, each
+ * opened in twelve slots; a run of as many steps as the input allows, 1,000 at most, is timed, so that nobody makes a step
+ * that is refused, which the published Rust would not refuse; and then the same steps made one by one, where each call
+ * checks book and pool anew. The published Rust has nothing to check, and is left out there. */
 #define _GNU_SOURCE
 #include <stdarg.h>
 #include <stdio.h>
@@ -16,29 +18,48 @@
 #include <time.h>
 
 #include "chase.h"
+#include "recorded.h"
 
-uint32_t reference_open(const uint8_t *, size_t, uint8_t *, size_t, uint32_t, uint32_t);
-uint32_t reference_step(const uint8_t *, size_t, uint8_t *, size_t, uint32_t, uint32_t);
-struct chase_ran reference_run(const uint8_t *, size_t, uint8_t *, size_t, uint32_t, uint32_t, uint32_t);
+typedef uint32_t open_call(const uint8_t *, size_t, uint8_t *, size_t, uint32_t, uint32_t);
+typedef uint32_t step_call(const uint8_t *, size_t, uint8_t *, size_t, uint32_t, uint32_t);
+typedef struct chase_ran run_call(const uint8_t *, size_t, uint8_t *, size_t, uint32_t, uint32_t, uint32_t);
+typedef uint32_t hold_call(const uint8_t *, size_t);
 
-enum { ELEMENTS = 40, SLOTS = 12, BUDGET = 1000, MOST = 1024, ENGINES = 2 };
+open_call reference_open, published_open;
+step_call reference_step;
+run_call reference_run, published_run;
+hold_call published_holds;
 
 static const struct engine {
     const char *name;
-    uint32_t (*open)(const uint8_t *, size_t, uint8_t *, size_t, uint32_t, uint32_t);
-    uint32_t (*step)(const uint8_t *, size_t, uint8_t *, size_t, uint32_t, uint32_t);
-    struct chase_ran (*run)(const uint8_t *, size_t, uint8_t *, size_t, uint32_t, uint32_t, uint32_t);
-} engines[ENGINES] = {
-    {"exported calls", chase_open, chase_step, chase_run},
-    {"reference", reference_open, reference_step, reference_run},
+    open_call *open;
+    step_call *step;
+    run_call *run;
+    hold_call *holds; /* of one that has no pool: is what it has what a pool says? */
+} engines[] = {
+#ifdef EXPORTED
+    {"exported calls", chase_open, chase_step, chase_run, NULL},
+#endif
+    {"reference", reference_open, reference_step, reference_run, NULL},
+#ifdef PUBLISHED
+    {"published Rust", published_open, NULL, published_run, published_holds},
+#endif
 };
+
+enum { ENGINES = sizeof engines / sizeof engines[0] };
+#ifdef PUBLISHED
+enum { POOLED = ENGINES - 1 }; /* those that have a pool */
+#else
+enum { POOLED = ENGINES };
+#endif
+enum { SLOTS = 12, BUDGET = 1000, MOST = 1024, ELEMENTS_MOST = 64 };
 
 static uint8_t pools[ENGINES][CHASE_POOL_SIZE(SLOTS)];
 enum { POOL = CHASE_POOL_SIZE(SLOTS) };
 
 struct input {
-    uint8_t *at; /* eight bytes of settings, then the book */
-    size_t len;
+    struct bytes all; /* eight bytes of settings, then the book */
+    uint32_t steps;
 };
 
 static struct input inputs[MOST];
@@ -62,20 +83,54 @@ static double now(void)
     return (double)time.tv_sec + (double)time.tv_nsec / 1e9;
 }
 
-/* Are the pools and the answers of both alike? */
-static void hold(const char *where, size_t index, const uint32_t *answers)
+/* Are the answers of the first so many alike, and the pools or what stands for them? The first has a pool. */
+static void hold(const char *where, size_t index, const struct chase_ran *answers, int count)
 {
-    if (answers[0] != answers[1] || memcmp(pools[0], pools[1], POOL) != 0)
-        fail("%s %zu: answers %u and %u, or pools that differ", where, index, answers[0], answers[1]);
+    for (int i = 1; i < count; i++) {
+        const struct engine *engine = &engines[i];
+        if (answers[i].stop != answers[0].stop || answers[i].steps != answers[0].steps)
+            fail("%s %zu: %s answers %u after %u steps, %s %u after %u", where, index, engines[0].name, answers[0].stop,
+                 answers[0].steps, engine->name, answers[i].stop, answers[i].steps);
+        if (engine->holds ? !engine->holds(pools[0], POOL) : memcmp(pools[0], pools[i], POOL) != 0)
+            fail("%s %zu: %s and %s come to different sheets", where, index, engines[0].name, engine->name);
+    }
 }
 
-/* Which of the two is asked first in a round: in turns. */
-static int turn(size_t round, int k)
+/* Which of so many is asked as k-th in a round: in turns. */
+static int turn(size_t round, int k, int count)
 {
-    return (int)((round + (size_t)k) % ENGINES);
+    return (int)((round + (size_t)k) % (size_t)count);
+}
+
+/* Each engine's best time so far. */
+struct best {
+    double time[ENGINES];
+};
+
+static struct best fresh(void)
+{
+    struct best best;
+    for (int i = 0; i < ENGINES; i++)
+        best.time[i] = 1e9;
+    return best;
+}
+
+static void keep(struct best *best, const double *took, int count)
+{
+    for (int i = 0; i < count; i++)
+        if (took[i] < best->time[i])
+            best->time[i] = took[i];
 }
 
 /* ---- choices */
+
+static unsigned elements;
+
+/* Steps that make the elements, 16 each. */
+static unsigned filling(void)
+{
+    return (elements + 15) / 16;
+}
 
 static uint8_t book[CHASE_BOOK_MOST];
 static size_t book_len;
@@ -105,12 +160,12 @@ static void make_book(enum shape shape)
     unsigned made = 0, some;
     memcpy(book, "RUL", 3);
     book_len = 3;
-    put(6, 1u, (unsigned)ELEMENTS, 1u, 2u, 0u, 0u); /* constants, the function f, the relations P and Q */
+    put(6, 1u, elements, 1u, 2u, 0u, 0u); /* constants, the function f, the relations P and Q */
     put(3, 1u, 1u, 2u);
-    put(1, 1u + (ELEMENTS + 15u) / 16u);
-    for (; made < ELEMENTS; made += some) {
+    put(1, 1u + filling());
+    for (; made < elements; made += some) {
         unsigned k;
-        some = ELEMENTS - made < 16 ? ELEMENTS - made : 16;
+        some = elements - made < 16 ? elements - made : 16;
         put(5, 0u, 0u, 1u, 0u, some); /* no variables and no body; one disjunct, P of so many constants */
         for (k = 0; k < some; k++)
             put(4, 0u, 0u, 1u, made + k);
@@ -132,51 +187,69 @@ static void make_book(enum shape shape)
     }
 }
 
+/* One engine's time for the step that goes through all choices of the book. */
+static double go_through(int i, size_t round, struct chase_ran *answer)
+{
+    double begun;
+    if (engines[i].open(book, book_len, pools[i], POOL, 0, 0) != 0)
+        fail("round %zu: the book is refused by the %s", round, engines[i].name);
+    *answer = engines[i].run(book, book_len, pools[i], POOL, 0, 0, filling());
+    if (answer->stop != 0)
+        fail("round %zu: the %s stops with %u before the choices", round, engines[i].name, answer->stop);
+    begun = now();
+    *answer = engines[i].run(book, book_len, pools[i], POOL, 0, 0, 1);
+    return now() - begun;
+}
+
 static void time_choices(size_t rounds)
 {
-    const double choices = (double)ELEMENTS * ELEMENTS * ELEMENTS * ELEMENTS;
-    int shape;
-    for (shape = 0; shape < SHAPES; shape++) {
-        double best[ENGINES] = {1e9, 1e9};
-        size_t round;
+    const double choices = (double)elements * elements * elements * elements;
+    for (int shape = 0; shape < SHAPES; shape++) {
+        struct best best = fresh();
         make_book((enum shape)shape);
-        for (round = 0; round < rounds; round++) {
-            uint32_t answers[ENGINES];
-            int k;
-            for (k = 0; k < ENGINES; k++) {
-                const int i = turn(round, k);
-                double begun;
-                struct chase_ran ran;
-                if (engines[i].open(book, book_len, pools[i], POOL, 0, 0) != 0)
-                    fail("the book of %s is refused", shapes[shape]);
-                ran = engines[i].run(book, book_len, pools[i], POOL, 0, 0, (ELEMENTS + 15) / 16);
-                if (ran.stop != 0)
-                    fail("the run of %s stops with %u", shapes[shape], ran.stop);
-                begun = now();
-                answers[i] = engines[i].step(book, book_len, pools[i], POOL, 0, 0);
-                begun = now() - begun;
-                if (begun < best[i])
-                    best[i] = begun;
+        for (size_t round = 0; round < rounds; round++) {
+            struct chase_ran answers[ENGINES];
+            double took[ENGINES];
+            for (int k = 0; k < ENGINES; k++) {
+                const int i = turn(round, k, ENGINES);
+                took[i] = go_through(i, round, &answers[i]);
             }
-            hold("choices", (size_t)shape, answers);
-            if (answers[0] != 0 || pools[0][13] != 1)
+            hold("choices", (size_t)shape, answers, ENGINES);
+            if (answers[0].stop != 0 || answers[0].steps != 1 || pools[0][13] != 1)
                 fail("%s: the sheet is not complete", shapes[shape]);
+            keep(&best, took, ENGINES);
         }
         for (int i = 0; i < ENGINES; i++)
-            printf("choices, %s: %s %.2f million a second\n", shapes[shape], engines[i].name, choices / best[i] / 1e6);
+            printf("choices over %u elements, %s: %s %.4f million a second\n", elements, shapes[shape], engines[i].name,
+                   choices / best.time[i] / 1e6);
     }
 }
 
 /* ---- steps */
 
-static int digit(char c)
+/* A run of an input from an opened pool: one call, or a call for each step. Answers the time. */
+static double go(int i, const struct input *input, uint32_t budget, int single, struct chase_ran *answer)
 {
-    if (c >= '0' && c <= '9')
-        return c - '0';
-    return c >= 'a' && c <= 'f' ? c - 'a' + 10 : -1;
+    const struct engine *engine = &engines[i];
+    const uint8_t *settings = input->all.at, *at = settings + 8;
+    const size_t len = input->all.len - 8;
+    const uint32_t number = (uint32_t)settings[4] | (uint32_t)settings[5] << 8 | (uint32_t)settings[6] << 16 |
+                            (uint32_t)settings[7] << 24;
+    double begun;
+    engine->open(at, len, pools[i], POOL, settings[0], settings[1]);
+    begun = now();
+    if (!single) {
+        *answer = engine->run(at, len, pools[i], POOL, settings[2], number, budget);
+        return now() - begun;
+    }
+    *answer = (struct chase_ran){0, 0};
+    while (answer->steps < budget &&
+           (answer->stop = engine->step(at, len, pools[i], POOL, settings[2], number)) == 0)
+        answer->steps++;
+    return now() - begun;
 }
 
-/* The inputs that open and whose fourth byte is 0. */
+/* The inputs that are not refused, each with the steps that it allows. */
 static void read_inputs(const char *name)
 {
     FILE *file = fopen(name, "r");
@@ -185,84 +258,66 @@ static void read_inputs(const char *name)
     if (!file)
         fail("%s cannot be read", name);
     while (getline(&line, &room, file) >= 0) {
-        const char *text = line + 6;
-        struct input input = {NULL, 0};
+        struct input input = {{NULL, 0}, 0};
+        struct chase_ran ran;
         if (strncmp(line, "input ", 6) != 0 || input_count == MOST)
             continue;
-        input.at = malloc(strlen(text) / 2 + 1);
-        if (!input.at)
-            fail("no memory");
-        for (; digit(text[0]) >= 0 && digit(text[1]) >= 0; text += 2)
-            input.at[input.len++] = (uint8_t)(16 * digit(text[0]) + digit(text[1]));
-        if (input.len >= 8 && input.at[3] == 0 &&
-            chase_open(input.at + 8, input.len - 8, pools[0], POOL, input.at[0], input.at[1]) == 0)
+        input.all = recorded_bytes(line + 6);
+        if (input.all.len < 8 || input.all.at[3] != 0)
+            continue;
+        go(0, &input, BUDGET, 0, &ran);
+        input.steps = ran.steps;
+        if (ran.steps > 0)
             inputs[input_count++] = input;
     }
     free(line);
     fclose(file);
 }
 
-/* All inputs, by one engine from opened pools: by runs, or by single steps. Answers the time, counts the steps. */
-static double go(const struct engine *engine, uint8_t *pool, const struct input *input, int single, uint64_t *steps,
-                 uint32_t *answer)
+/* The time of each of the first so many engines for all inputs, in one round. */
+static void time_inputs(size_t round, int single, int count, double *took)
 {
-    const uint8_t *at = input->at + 8;
-    const size_t len = input->len - 8;
-    const uint32_t number = (uint32_t)input->at[4] | (uint32_t)input->at[5] << 8 | (uint32_t)input->at[6] << 16 |
-                            (uint32_t)input->at[7] << 24;
-    double begun;
-    engine->open(at, len, pool, POOL, input->at[0], input->at[1]);
-    begun = now();
-    if (single) {
-        uint32_t made = 0;
-        *answer = 0;
-        while (made < BUDGET && (*answer = engine->step(at, len, pool, POOL, input->at[2], number)) == 0)
-            made++;
-        *steps += made;
-    } else {
-        const struct chase_ran ran = engine->run(at, len, pool, POOL, input->at[2], number, BUDGET);
-        *answer = ran.stop;
-        *steps += ran.steps;
+    for (int i = 0; i < count; i++)
+        took[i] = 0;
+    for (size_t n = 0; n < input_count; n++) {
+        struct chase_ran answers[ENGINES];
+        for (int k = 0; k < count; k++) {
+            const int i = turn(round + n, k, count);
+            took[i] += go(i, &inputs[n], inputs[n].steps, single, &answers[i]);
+        }
+        hold(single ? "steps" : "runs", n, answers, count);
+        if (answers[0].stop != 0 || answers[0].steps != inputs[n].steps)
+            fail("input %zu: %u steps, and before %u", n, answers[0].steps, inputs[n].steps);
     }
-    return now() - begun;
 }
 
 static void time_steps(size_t rounds, int single)
 {
-    double best[ENGINES] = {1e9, 1e9};
-    uint64_t steps[ENGINES] = {0, 0};
-    size_t round, n;
-    for (round = 0; round < rounds; round++) {
-        double took[ENGINES] = {0, 0};
-        memset(steps, 0, sizeof steps);
-        for (n = 0; n < input_count; n++) {
-            uint32_t answers[ENGINES];
-            for (int k = 0; k < ENGINES; k++) {
-                const int i = turn(round + n, k);
-                took[i] += go(&engines[i], pools[i], &inputs[n], single, &steps[i], &answers[i]);
-            }
-            hold(single ? "steps" : "runs", n, answers);
-        }
-        if (steps[0] != steps[1])
-            fail("steps %llu and %llu", (unsigned long long)steps[0], (unsigned long long)steps[1]);
-        for (int i = 0; i < ENGINES; i++)
-            if (took[i] < best[i])
-                best[i] = took[i];
+    const int count = single ? POOLED : ENGINES;
+    struct best best = fresh();
+    unsigned long long steps = 0;
+    for (size_t round = 0; round < rounds; round++) {
+        double took[ENGINES];
+        time_inputs(round, single, count, took);
+        keep(&best, took, count);
     }
-    for (int i = 0; i < ENGINES; i++)
-        printf("steps, %s: %s %.0f a second (%llu steps of %zu inputs)\n", single ? "a call each" : "in runs",
-               engines[i].name, (double)steps[i] / best[i], (unsigned long long)steps[i], input_count);
+    for (size_t n = 0; n < input_count; n++)
+        steps += inputs[n].steps;
+    for (int i = 0; i < count; i++)
+        printf("steps, %s: %s %.1f a second (%llu steps of %zu inputs)\n", single ? "a call each" : "in runs",
+               engines[i].name, (double)steps / best.time[i], steps, input_count);
 }
 
 int main(int argc, char **argv)
 {
-    const size_t rounds = argc == 3 ? strtoul(argv[1], NULL, 10) : 0;
-    if (rounds == 0)
-        fail("usage: speed ROUNDS LISTINGS");
+    const size_t rounds = argc == 4 ? strtoul(argv[1], NULL, 10) : 0;
+    elements = argc == 4 ? (unsigned)strtoul(argv[2], NULL, 10) : 0;
+    if (rounds == 0 || elements == 0 || elements > ELEMENTS_MOST)
+        fail("usage: speed ROUNDS ELEMENTS LISTINGS, elements 1 to %d", ELEMENTS_MOST);
     setvbuf(stdout, NULL, _IOLBF, 0);
-    read_inputs(argv[2]);
-    time_steps(4 * rounds, 0);
-    time_steps(4 * rounds, 1);
+    read_inputs(argv[3]);
+    time_steps(2 * rounds, 0);
+    time_steps(2 * rounds, 1);
     time_choices(rounds);
     return 0;
 }

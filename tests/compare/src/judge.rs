@@ -101,6 +101,15 @@ impl<'a> Judge<'a> {
         Ok(())
     }
 
+    /// Lowering never makes more passes over the keys than there are living elements.
+    fn lowered(&self, book: &[u8], before: &[u8]) -> Judged<()> {
+        let lowering = self.counts.lowering;
+        if lowering.exceeds() {
+            return Err(complain(&lowering.text(), book, before));
+        }
+        Ok(())
+    }
+
     fn same(what: &str, same: bool, book: &[u8], before: &[u8]) -> Judged<()> {
         if same {
             return Ok(());
@@ -142,6 +151,7 @@ impl<'a> Judge<'a> {
     pub fn step(&mut self, book: &[u8], pool: &mut [u8], bound: Bound) -> Judged<u32> {
         let before = pool.to_vec();
         let answer = step_with(LIMITS, book, pool, bound, &mut self.counts);
+        self.lowered(book, &before)?;
         self.after("step", answer, book, &before, pool)?;
         if answer == 0 {
             let views = [&before[..], &pool[..]].map(|bytes| View { bytes, limits: LIMITS });
@@ -168,6 +178,7 @@ impl<'a> Judge<'a> {
     ) -> Judged<(u32, u32)> {
         let before = pool.to_vec();
         let (stop, steps) = run_with(LIMITS, book, pool, bound, budget, &mut self.counts);
+        self.lowered(book, &before)?;
         self.calls += 1;
         self.counts.add(&format!("run answers {stop}"));
         let refused = (1..=13).contains(&stop);

@@ -1,8 +1,9 @@
 //! The comparisons: books against a peer step by step (`published`), the calls against a second
 //! engine or by themselves (`judge`, `scenarios`, `rare`), the exported calls as such an engine
-//! (`pipes`), recorded answers (`recorded`), and calls written down for a program that makes them
-//! again (`tape`).
+//! (`pipes`), recorded answers (`recorded`), calls written down for a program that makes them
+//! again (`tape`), and chains of merges (`chains`).
 
+pub mod chains;
 pub mod corners;
 pub mod judge;
 pub mod peer;
@@ -59,8 +60,12 @@ pub fn wanted() -> Vec<String> {
     events.chain(scenarios::names()).collect()
 }
 
-/// Says what was met less than `floor` times; else how many names there are, and the least count.
+/// Says what was met less than `floor` times, or that lowering took more passes than it may; else how
+/// many names there are, the least count, and the most passes.
 pub fn verdict(counts: &Counts, floor: u64) -> Result<String, String> {
+    if counts.lowering.exceeds() {
+        return Err(counts.lowering.text());
+    }
     let names = wanted();
     let short = counts.short(names.iter().map(|name| name.as_str()), floor);
     if !short.is_empty() {
@@ -70,7 +75,11 @@ pub fn verdict(counts: &Counts, floor: u64) -> Result<String, String> {
     }
     let all = counts.short(names.iter().map(|name| name.as_str()), u64::MAX);
     let least = all.iter().map(|(_, count)| count).min().copied().unwrap_or(0);
-    Ok(format!("names to be met {}, each at least {floor} times, the rarest {least}", names.len()))
+    let most = counts.lowering.text();
+    Ok(format!(
+        "names to be met {}, each at least {floor} times, the rarest {least}\nat most, {most}",
+        names.len()
+    ))
 }
 
 /// Every count, one a line.

@@ -1,10 +1,11 @@
 //! Engines that are wrong on purpose are caught by the judge: document 01's five useless ones,
 //! and some that err in one respect.
 
-use compare::judge::Calls;
-use compare::judge_calls;
+use compare::judge::{Calls, Judge};
 use compare::recorded::Reference;
+use compare::{judge_calls, verdict};
 use reference::child::Bound;
+use reference::watch::Watch;
 
 /// The reference with one thing spoilt.
 struct Spoilt {
@@ -112,4 +113,16 @@ fn small_errors_are_caught() {
     assert!(caught(How::ForgetsSoundness));
     assert!(caught(How::TakesWithoutFreeing));
     assert!(caught(How::DomainSizeOneMore));
+}
+
+#[test]
+fn more_passes_than_elements_are_caught() {
+    let mut judge = Judge::new(None);
+    let mut call = |passes: usize| {
+        judge.counts.lowering_done(passes, 9, 3);
+        judge.step(&[], &mut [0; 3], Bound { kind: 0, number: 0 })
+    };
+    assert_eq!(call(3), Ok(2));
+    assert!(call(4).is_err_and(|text| text.contains("4 passes over the keys of 3 elements")));
+    assert!(verdict(&judge.counts, 0).is_err());
 }

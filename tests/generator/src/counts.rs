@@ -14,7 +14,38 @@ pub struct Counts {
     pub steps: u64,
     pub long_books: u64,
     pub fair: bool,
+    pub lowering: Lowering,
     shared: Vec<bool>,
+}
+
+/// The most that lowering took: passes over the keys, the last one that finds nothing among them,
+/// for each living element.
+#[derive(Clone, Copy, Debug, Default)]
+pub struct Lowering {
+    pub passes: usize,
+    pub living: usize,
+}
+
+impl Lowering {
+    /// The one that took more passes for an element; of two alike, the one with more elements.
+    fn most(self, other: Lowering) -> Lowering {
+        let (here, there) = (self.passes * other.living, other.passes * self.living);
+        let more = there > here || there == here && other.living > self.living;
+        if self.living == 0 || more {
+            other
+        } else {
+            self
+        }
+    }
+
+    /// Were there ever more passes than living elements?
+    pub fn exceeds(&self) -> bool {
+        self.passes > self.living
+    }
+
+    pub fn text(&self) -> String {
+        format!("lowering makes {} passes over the keys of {} elements", self.passes, self.living)
+    }
 }
 
 /// Names of events in a step that every run of the comparison must meet.
@@ -89,6 +120,7 @@ impl Counts {
         self.books += other.books;
         self.steps += other.steps;
         self.long_books += other.long_books;
+        self.lowering = self.lowering.most(other.lowering);
     }
 
     /// The names among `wanted` that were met less than `floor` times.
@@ -143,6 +175,10 @@ impl Watch for Counts {
 
     fn lowered(&mut self) {
         self.add(EVENTS[8]);
+    }
+
+    fn lowering_done(&mut self, passes: usize, _: usize, living: usize) {
+        self.lowering = self.lowering.most(Lowering { passes, living });
     }
 
     fn merge_done(&mut self, rounds: u32) {

@@ -85,6 +85,9 @@ pub struct Machine<'s, Stg: Strategy<&'s BasicSequent> + Placed> {
 pub trait Steps {
     /// One step; false if nothing waits.
     fn step(&mut self, bound: u32, number: u32) -> bool;
+    /// Up to `budget` steps by the published evaluator alone, with nothing noted; how many were
+    /// made. The place of a model that ends is not known then, and is given as 0.
+    fn run(&mut self, bound: u32, number: u32, budget: u32) -> u32;
     /// Drops the first complete (0) or bounded (1) model; false if there is none.
     fn take(&mut self, list: usize) -> bool;
     fn state(&self) -> PlainPool;
@@ -159,6 +162,24 @@ impl<'s, Stg: Strategy<&'s BasicSequent> + Placed> Steps for Machine<'s, Stg> {
             |model| bounded.push_back((model.finalize(), noting.after.get())),
         );
         true
+    }
+
+    fn run(&mut self, bound: u32, number: u32, budget: u32) -> u32 {
+        let bounder = bounder(bound, number);
+        let [complete, bounded] = &mut self.lists;
+        for steps in 0..budget {
+            if self.scheduler.empty() {
+                return steps;
+            }
+            chase_step(
+                &mut self.scheduler,
+                &BasicEvaluator,
+                &*bounder,
+                |model: BasicModel| complete.push_back((model.finalize(), 0)),
+                |model: BasicModel| bounded.push_back((model.finalize(), 0)),
+            );
+        }
+        budget
     }
 
     fn take(&mut self, list: usize) -> bool {

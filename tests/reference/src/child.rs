@@ -292,7 +292,7 @@ impl<W: Watch> Child<'_, W> {
             if a == b {
                 continue;
             }
-            self.watch.merged(round);
+            self.watch.merged(self.sheet.keys.len(), self.sheet.facts.len());
             rounds = rounds.max(round + 1);
             let (keep, gone) = (a.min(b), a.max(b));
             self.scratch.into[gone as usize] = keep;
@@ -300,7 +300,11 @@ impl<W: Watch> Child<'_, W> {
         }
         if rounds > 0 {
             self.watch.merge_done(rounds);
-            while self.sheet.lower_once(self.watch) {}
+            let mut passes = 1;
+            while self.sheet.lower_once(self.watch) {
+                passes += 1;
+            }
+            self.watch.lowering_done(passes, self.sheet.keys.len(), self.sheet.living);
         }
     }
 }

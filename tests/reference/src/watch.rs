@@ -36,9 +36,13 @@ pub trait Watch {
     fn recorded_nested(&mut self) {}
     fn recorded_nullary(&mut self) {}
     fn recorded_appended(&mut self) {}
-    fn merged(&mut self, _round: u32) {}
+    /// Two elements are about to become one in a sheet of so many keys and facts.
+    fn merged(&mut self, _keys: usize, _facts: usize) {}
     fn merge_done(&mut self, _rounds: u32) {}
     fn lowered(&mut self) {}
+    /// No depth falls any more after so many passes over the keys, the last of which found nothing,
+    /// in a sheet of so many keys and living elements.
+    fn lowering_done(&mut self, _passes: usize, _keys: usize, _living: usize) {}
     fn out_of_room(&mut self, _room: Room) {}
     fn child_bounded(&mut self) {}
 }
