@@ -116,9 +116,11 @@ static void change_script(struct input *input)
 }
 
 /* Goes on from what the calls of an input left, with calls of its own. */
-static void go_on(struct input *input)
+static void go_on(struct input *input, unsigned seed)
 {
-    if (!play(input))
+    const int played = play(input);
+    change_begin(seed + 1); /* play begins the random numbers from the seeds of the input */
+    if (!played)
         return;
     copy(&input->book, &now.book);
     copy(&input->pool, &now.pool);
@@ -148,7 +150,7 @@ size_t LLVMFuzzerCustomMutator(uint8_t *data, size_t len, size_t most, unsigned 
         change_book(&input.book);
         break;
     case 6:
-        go_on(&input);
+        go_on(&input, seed);
         break;
     default:
         change_script(&input);

@@ -119,7 +119,7 @@ static void see_sheet(const uint8_t *sheet, size_t list)
     count(&seen_counters.depth[coarse(depth)]);
 }
 
-/* What a sound pool has. */
+/* What a pool has that is to be sound. */
 static void see_pool(const uint8_t *pool)
 {
     const uint8_t *lengths = pool + 12;
@@ -128,9 +128,9 @@ static void see_pool(const uint8_t *pool)
         const uint8_t *slots = pool + 16 + 64 * list;
         const size_t len = lengths[list];
         if (len > 0)
-            see_sheet(pool + CHASE_POOL_SIZE(slots[0]), list);
+            see_sheet(pool + CHASE_POOL_SIZE(slots[0] % CHASE_SLOTS_MOST), list);
         if (len > 1)
-            see_sheet(pool + CHASE_POOL_SIZE(slots[len - 1]), list);
+            see_sheet(pool + CHASE_POOL_SIZE(slots[len - 1] % CHASE_SLOTS_MOST), list);
     }
 }
 
