@@ -11,7 +11,7 @@
 #include "chase.h"
 
 enum { PAGE = 4096, BREAKPOINT = 0xcc, BLOCKS_MOST = 1 << 13, COARSE = 9 };
-enum { KINDS = CALLS * ANSWERS, LISTS = 3 };
+enum { KINDS = CALLS * ANSWERS, LISTS = 3, TABLE = 256 };
 
 /* The counters; libFuzzer clears them before each run. */
 struct counters {
@@ -20,6 +20,7 @@ struct counters {
     uint8_t steps[4][COARSE];
     uint8_t lists[COARSE][COARSE][COARSE];
     uint8_t tables[LISTS][COARSE][COARSE][COARSE];
+    uint8_t created[TABLE], keys[TABLE], facts[TABLE];
     uint8_t merged[COARSE][COARSE];
     uint8_t depth[COARSE];
 };
@@ -115,6 +116,9 @@ static void see_sheet(const uint8_t *sheet, size_t list)
     for (size_t i = 0; i < created; i++)
         depth = sheet[2064 + i] > depth ? sheet[2064 + i] : depth;
     count(&seen_counters.tables[list][coarse(created)][coarse(keys)][coarse(facts)]);
+    count(&seen_counters.created[created]);
+    count(&seen_counters.keys[keys]);
+    count(&seen_counters.facts[facts]);
     count(&seen_counters.merged[coarse(created)][coarse(merged)]);
     count(&seen_counters.depth[coarse(depth)]);
 }

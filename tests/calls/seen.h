@@ -4,7 +4,8 @@
  *    is taken away when it is met, as the archive itself tells nothing;
  *  - each answer of each kind of call, from 14 on and 0 together with what the call before it was and answered;
  *  - in coarse steps, what the pool has after a call: how many sheets in each list, and of the first and last sheet of
- *    each list the elements, keys, facts, elements merged away and the greatest depth; and the steps of a run. */
+ *    each list the elements, keys, facts, elements merged away and the greatest depth; and the steps of a run;
+ *  - each number of elements, keys and facts in such a sheet, so that a sheet that is fuller than any before is kept. */
 #ifndef SEEN_H
 #define SEEN_H
 
