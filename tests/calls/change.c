@@ -103,6 +103,16 @@ static size_t part_of(size_t all, size_t *len)
     return 3 + 2 * first;
 }
 
+/* Puts a part of another book in at `at`. */
+static void put_part(struct buffer *book, size_t at, const uint8_t *other, size_t other_len)
+{
+    size_t len, from;
+    if (other_len < 5)
+        return;
+    from = part_of(other_len, &len);
+    put_in(book, at, other + from, len);
+}
+
 static void change_book_once(struct buffer *book)
 {
     size_t len, at;
@@ -118,14 +128,12 @@ static void change_book_once(struct buffer *book)
     case 1:
         put_in(book, 3 + 2 * below((book->len - 3) / 2), book->at + at, len);
         break;
-    case 2: {
-        const struct bytes *other = recorded_books + below(recorded_book_count);
-        if (other->len >= 5) {
-            const size_t from = part_of(other->len, &len);
-            put_in(book, at, other->at + from, len);
+    case 2:
+        if (recorded_book_count > 0) {
+            const struct bytes *other = recorded_books + below(recorded_book_count);
+            put_part(book, at, other->at, other->len);
         }
         break;
-    }
     case 3:
         book->len = below(book->len + 1);
         break;
@@ -242,6 +250,13 @@ void change_book(struct buffer *book)
 {
     for (size_t count = 1 + below(3); count > 0; count--)
         change_book_once(book);
+}
+
+void change_book_by(struct buffer *book, const struct buffer *other)
+{
+    size_t len;
+    if (book->len >= 5)
+        put_part(book, part_of(book->len, &len), other->at, other->len);
 }
 
 void change_pool(struct buffer *pool)

@@ -26,6 +26,8 @@ void fill(struct buffer *to, size_t len);
 
 /* One to three changes: numbers, bits, parts left out, repeated or put elsewhere. */
 void change_book(struct buffer *book);
+/* A part of another book is put in. */
+void change_book_by(struct buffer *book, const struct buffer *other);
 /* One to three changes: of the header, of a sheet, of table entries, of whole slots, of the length. */
 void change_pool(struct buffer *pool);
 

@@ -19,6 +19,7 @@ struct lent book = {.name = "book"}, pool = {.name = "pool"}, out = {.name = "ou
 const char *const call_names[CALLS] = {"chase_open", "chase_step", "chase_run", "chase_take"};
 
 uint64_t lent_calls;
+void (*lent_end)(int) = _exit;
 
 static const char *program;
 static unsigned most_seconds;
@@ -36,6 +37,7 @@ void lent_fail(const char *format, ...)
     vsnprintf(line, sizeof line, format, list);
     va_end(list);
     fprintf(stderr, "%s: %s (call %ju)\n", program, line, (uintmax_t)lent_calls);
+    lent_end(3);
     _exit(3);
 }
 
@@ -43,13 +45,6 @@ static uint8_t *first_page(const struct lent *lent)
 {
     return lent->room + PAGE;
 }
-
-/* qemu 7.2 enters the handler of a signal with a stack that is eight bytes off, which the compiler cannot know. */
-#ifdef __x86_64__
-#define HANDLER __attribute__((force_align_arg_pointer))
-#else
-#define HANDLER
-#endif
 
 /* Says which buffer a faulty address belongs to, and where it stands in it: before 0, or from its length on. */
 HANDLER static void touched(int number, siginfo_t *info, void *context)
@@ -158,6 +153,8 @@ int lent_call_in_time(const struct call *call, struct answer *answer)
 {
     if (sigsetjmp(late, 1) != 0) {
         may_be_late = 0;
+        fprintf(stderr, "%s: %s broken off after %u seconds (call %ju)\n", program, calling, most_seconds,
+                (uintmax_t)lent_calls);
         return 0;
     }
     may_be_late = 1;

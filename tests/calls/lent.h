@@ -9,6 +9,13 @@
 #include <stddef.h>
 #include <stdint.h>
 
+/* qemu 7.2 enters the handler of a signal with a stack that is eight bytes off, which the compiler cannot know. */
+#ifdef __x86_64__
+#define HANDLER __attribute__((force_align_arg_pointer))
+#else
+#define HANDLER
+#endif
+
 enum { LENT_MOST = 1 << 20 }; /* the longest buffer that can be lent, in bytes */
 
 /* Which end stands at a fence; KEEP leaves a buffer as it is. */
@@ -36,7 +43,8 @@ struct answer {
 
 extern struct lent book, pool, out;
 extern const char *const call_names[CALLS];
-extern uint64_t lent_calls; /* how many calls were made */
+extern uint64_t lent_calls;   /* how many calls were made */
+extern void (*lent_end)(int); /* how lent_fail ends the program: _exit, unless another is set */
 
 /* Makes room for the three buffers. A touch outside them, or a call that does not end within `seconds`, then ends the
  * program with a line on standard error that begins with `program` and says which call it was. */

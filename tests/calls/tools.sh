@@ -49,6 +49,21 @@ compile() {
         complain "$name does not compile"
 }
 
+# find_functions PROGRAM: where the archive's functions stand in a program: first is the address of the first in hex
+# digits, last the one behind them as a number.
+find_functions() {
+    local functions at size kind name
+    functions=$(awk 'NF > 1 && $(NF - 1) ~ /^[tT]$/ { print $NF }' <<<"$names")
+    first=""
+    last=0
+    while read -r at size kind name; do
+        grep -qxF "$name" <<<"$functions" || continue
+        [[ -n $first && $((16#$at)) -ge $((16#$first)) ]] || first=$at
+        [[ $((16#$at + 16#$size)) -le $last ]] || last=$((16#$at + 16#$size))
+    done < <("${compiler%gcc}nm" -S --defined-only "$1" | awk 'NF == 4 && $3 ~ /^[tT]$/')
+    [ -n "$first" ] || complain "$1 has no function of the archive"
+}
+
 # find_misdeeds COMMAND..: for each misdeed that MISDEED can name (misdeeds.c), the command fails and says what it found.
 find_misdeeds() {
     local buffer
@@ -80,4 +95,5 @@ find_misdeed() {
     misdeeds=$((misdeeds + 1))
 }
 
+recorded=("$root"/tests/recorded/{listings,refusals,pools,unsound}.txt)
 wrapped=-Wl,--wrap=chase_open,--wrap=chase_step,--wrap=chase_run,--wrap=chase_take
