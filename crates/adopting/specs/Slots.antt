@@ -23,10 +23,10 @@ use Rattle.slots.specs.Carry.{stored-image}
 use Rattle.enter.specs.Keep.{Carries}
 use Rattle.heads.specs.Writes.{slot-written}
 use Rattle.lists.specs.Header.{nextIn, next-in}
-use Rattle.lists.specs.Moves.{Shows, Room, Forgotten, Joined, opens, cuts, shows-next}
+use Rattle.lists.specs.Moves.{Imaged, Room, Forgotten, Joined, opens, cuts, shows-next}
 
 abbrev pub Freed : Limits → ℕ → Bytes → Bytes → Type 0
-Freed lim i p p′ = (s : State) → Shows lim s p → (ws : List ℕ) → s .waiting ≡ i ∷ ws → i < length (s .slots) → p′ ≡ poolBytes lim (withoutBase s i ws)
+Freed lim i p p′ = (s : State) → Imaged lim s p → (ws : List ℕ) → s .waiting ≡ i ∷ ws → i < length (s .slots) → p′ ≡ poolBytes lim (withoutBase s i ws)
 
 -- The child as it is placed: with the next number, and the place that all get.
 abbrev pub placedAs : State → ℕ → Bool → ℕ → Model → Placed
@@ -43,7 +43,7 @@ pub record Fitting (lim : Limits) (s : State) (i q : ℕ) (m : Model) : Type 0 w
   pub room : Room s
 
 abbrev pub Adopted : Limits → ℕ → Bool → ℕ → List ℕ → Bytes → Bytes → Type 0
-Adopted lim i cut place w p p′ = (s : State) → Shows lim s p → (m : Model) (now : History) → Carries lim w m now → Fitting lim s i place m
+Adopted lim i cut place w p p′ = (s : State) → Imaged lim s p → (m : Model) (now : History) → Carries lim w m now → Fitting lim s i place m
     → p′ ≡ poolBytes lim (withPlaced s (placedAs s i cut place m ∷ []) .state)
 
 -- ---- another sheet in a slot
@@ -51,8 +51,8 @@ Adopted lim i cut place w p p′ = (s : State) → Shows lim s p → (m : Model)
 abbrev slotted : State → ℕ → Sheet → State
 slotted s i x = changed s (s .next) (s .waiting) (s .complete) (s .bounded) (set (s .slots) i x)
 
-module _ (lim : Limits) (s : State) (p : Bytes) (sh : Shows lim s p) (i : ℕ) (there : i < length (s .slots)) (x : Sheet) (st : StorableSheet lim x) (bs : ByteSheet x) where
-  slotted-shows : (p₁ : Bytes) → p₁ ≡ patched (headSize + sheetSize lim * i) (sheetBytes lim x) p → Shows lim (slotted s i x) p₁
+module _ (lim : Limits) (s : State) (p : Bytes) (sh : Imaged lim s p) (i : ℕ) (there : i < length (s .slots)) (x : Sheet) (st : StorableSheet lim x) (bs : ByteSheet x) where
+  slotted-shows : (p₁ : Bytes) → p₁ ≡ patched (headSize + sheetSize lim * i) (sheetBytes lim x) p → Imaged lim (slotted s i x) p₁
   unfolding changed
   slotted-shows p₁ e = record {
     small = sh .small;

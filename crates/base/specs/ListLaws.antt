@@ -7,10 +7,10 @@ use mathlib.Core.Bool.{Bool, true, false, not, _&&_, _||_}
 use mathlib.Core.Logic.{_⊎_, inl, inr, Lift}
 use mathlib.Core.Option.{Option, none, some, Option·none-ne-some, Option·some-ne-none, Option·some-injective}
 use mathlib.Core.List.{List, [], _∷_, _++_, map}
-use lib.ListN.{length, getD, take, drop, set}
+use lib.ListN.{length, getD, take, drop, set, length-append}
 use lib.Dec.{T, eqb, eqb→eq, eqb-refl}
 use Rattle.base.specs.Branch.{if}
-use Rattle.base.specs.Lists.{All, Some, all, any, mem, without, firsts, firstOf, flat, equal}
+use Rattle.base.specs.Lists.{All, Some, all, any, mem, without, firsts, firstOf, flat, equal, entries}
 use Rattle.base.specs.BranchLaws.{if-elim, and-l, and-r, and-i, or-is}
 
 -- ---- maps
@@ -252,3 +252,21 @@ pub equal-self : (xs : List ℕ) → T (equal xs xs)
 unfolding equal
 equal-self [] = tt
 equal-self (x ∷ xs) = if-elim T _ _ _ (λ _. equal-self xs) (λ t. absurd (lib.Dec.T-not (eqb x x) t (eqb-refl x)))
+
+-- ---- entries at some places
+
+pub entries-length {ℓ} : {A : Type ℓ} (c : List A) (is : List ℕ) → All (λ i. i < length c) is → length (entries c is) ≡ length is
+unfolding entries
+entries-length c [] a = refl
+entries-length {A = A} c (i ∷ is) a =
+    length-append (take 1 (drop i c)) (entries c is) ∙ (let p = one c i (a .0) in let q = entries-length c is (a .1) in omega arith)
+  where
+    one : (c : List A) (i : ℕ) → i < length c → length (take 1 (drop i c)) ≡ 1
+    one [] i l = absurd (omega arith)
+    one (x ∷ c) zero l = refl
+    one (x ∷ c) (suc i) l = one c i (omega arith)
+
+pub entries-all {ℓ κ} : {A : Type ℓ} (P : A → Type κ) (c : List A) (is : List ℕ) → All P c → All P (entries c is)
+unfolding entries
+entries-all P c [] a = tt
+entries-all P c (i ∷ is) a = all-append P (take 1 (drop i c)) (entries c is) (all-take P 1 (drop i c) (all-drop P i c a)) (entries-all P c is a)

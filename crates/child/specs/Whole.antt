@@ -21,7 +21,7 @@ use Rattle.soundness.specs.Tools.{Yielded, known-yielded}
 use Rattle.soundness.specs.Join.{yielded-low}
 use Rattle.soundness.specs.Neat.{Neat}
 use Rattle.soundness.specs.Book.{SmallNames, WfOrigin, WfLiteral, WfDisjunct}
-use Rattle.soundness.specs.Enter.{Means}
+use Rattle.soundness.specs.Child.{head-means, head-length}
 use Rattle.texts.specs.Names.{namesIn}
 use Rattle.texts.specs.Reads.{Follow}
 use Rattle.texts.specs.Text.{LiteralText, OriginText, DisjunctText}
@@ -34,37 +34,6 @@ use Rattle.telling.specs.Stays.{Digits}
 use Rattle.telling.specs.Literals.{Held, Goes}
 use Rattle.child.specs.Tells.{tells-stay, tells-then, LiteralsAt, IsTells}
 use Rattle.child.specs.Owns.{IsOwns}
-
--- ---- what variables of a disjunct stand for
-
-entry-length : (c : List ℕ) (i : ℕ) → i < length c → length (take 1 (drop i c)) ≡ 1
-entry-length [] i l = absurd (omega arith)
-entry-length (x ∷ c) zero l = refl
-entry-length (x ∷ c) (suc i) l = entry-length c i (omega arith)
-
-entries-length : (c is : List ℕ) → All (λ i. i < length c) is → length (entries c is) ≡ length is
-unfolding entries
-entries-length c [] a = refl
-entries-length c (i ∷ is) a =
-    let p = entry-length c i (a .0) in
-    let q = entries-length c is (a .1) in
-    length-append (take 1 (drop i c)) (entries c is) ∙ (omega arith)
-
-entries-all : (P : ℕ → Type 0) (c is : List ℕ) → All P c → All P (entries c is)
-unfolding entries
-entries-all P c [] a = tt
-entries-all P c (i ∷ is) a = all-append P (take 1 (drop i c)) (entries c is) (all-take P 1 (drop i c) (all-drop P i c a)) (entries-all P c is a)
-
-head-means : (d : Names) (B : ℕ → Type 0) (c : List ℕ) → All B c → (j : Disjunct) → All (WfOrigin d (length c)) (j .origins) → All (Means d B) (headMeanings c j)
-unfolding headMeanings originMeaning
-head-means d B c a j w = all-append (Means d B) (map elem c) (map (originMeaning c) (j .origins))
-    (all-map B (Means d B) elem (λ e b. b) c a)
-    (all-map (WfOrigin d (length c)) (Means d B) (originMeaning c)
-    (λ o v. (entries-all B c (o .args) a, subst (λ n. T (declaredAs d (3 + o .kind) (o .witness) n)) (sym (entries-length c (o .args) (v .2))) (v .1))) (j .origins) w)
-
-head-length : (c : List ℕ) (j : Disjunct) → length (headMeanings c j) ≡ length c + length (j .origins)
-unfolding headMeanings
-head-length c j = length-append (map elem c) (map (originMeaning c) (j .origins)) ∙ ap₂ _+_ (length-map c elem) (length-map (j .origins) (originMeaning c))
 
 -- ---- the base
 

@@ -150,7 +150,7 @@ module _ (lim : Limits) (d : Names) (g : SmallNames d) (m : Model) (n : Neat lim
 
 -- ---- a sound state
 
-places-few : (st : Strategy) (n : ℕ) → n ≤ 128 → places st n ≤ 128
+pub places-few : (st : Strategy) (n : ℕ) → n ≤ 128 → places st n ≤ 128
 unfolding places
 places-few linear n l = omega arith
 places-few fair n l = omega arith

@@ -28,7 +28,8 @@ use Rattle.look.specs.Ways.{look-octet}
 use Rattle.skips.specs.Rest.{Skips}
 use Rattle.firing.specs.Answers.{Elements, LiteralsAt, AllObserved, haveElements, HaveElements, MadeEnv, packOrigin, DisjunctAt, IsDisjunct, HeadAt, IsHead, SequentAt, Fires}
 use Rattle.firing.specs.Mentions.{disjunct-fails, disjunct-has}
-use Rattle.firing.specs.Means.{body-means, body-length, head-means, head-length, few-args}
+use Rattle.soundness.specs.Child.{head-length}
+use Rattle.firing.specs.Means.{body-means, body-length, head-means, few-args}
 
 -- ---- literals
 

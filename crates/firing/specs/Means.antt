@@ -62,10 +62,6 @@ module _ (d : Names) (small : SmallNames d) (c : List ℕ) (octets : All Octet c
     pub few-args : All (λ (o : Origin). length (o .args) ≤ 4) (j .origins)
     few-args = all-all (WfOrigin d (length c)) (λ (o : Origin). length (o .args) ≤ 4) (λ o w. origin-fits o w .1) (j .origins) wf
 
-pub head-length : (c : List ℕ) (j : Disjunct) → length (headMeanings c j) ≡ length c + length (j .origins)
-unfolding headMeanings
-head-length c j = length-append (map elem c) (map (originMeaning c) (j .origins)) ∙ ap₂ (λ (a b : ℕ). a + b) (length-map c elem) (length-map (j .origins) (originMeaning c))
-
 -- ---- the tables of a model that is shown
 
 pub domain-octets : {d : Names} {m : Model} {keys dom : List ℕ} → Shown d m keys dom → All Octet dom

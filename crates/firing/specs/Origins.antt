@@ -6,7 +6,7 @@ use mathlib.Core.List.{List, [], _∷_, _++_, map, append-nil}
 use lib.ListN.{length, getD, take, set}
 use lib.Seq.{drop-cons, take-suc-set, append-snoc, getD-take, length-take-le}
 use Rattle.base.specs.Lists.{All, entries}
-use Rattle.base.specs.ListLaws.{all-getD, all-any}
+use Rattle.base.specs.ListLaws.{all-getD, all-any, entries-length, entries-all}
 use Rattle.rules.specs.Book.{Origin, Names}
 use Rattle.rules.specs.Reading.{Bytes, num}
 use Rattle.rules.specs.Sheet.{key}
@@ -26,11 +26,7 @@ unfolding entries
 entry-here c i is h = ap (λ (l : List ℕ). take 1 l ++ entries c is) (drop-cons c i 0 h)
 
 pub entries-are : (P : ℕ → Type 0) (c is : List ℕ) → All (λ i. i < length c) is → All P c → (length (entries c is) ≡ length is) × All P (entries c is)
-unfolding entries
-entries-are P c [] a p = (refl, tt)
-entries-are P c (i ∷ is) a p =
-    let r = entries-are P c is (a .1) p in
-    subst (λ (l : List ℕ). (length l ≡ suc (length is)) × All P l) (sym (entry-here c i is (a .0))) (ap suc (r .0), (all-getD P c i 0 (a .0) p, r .1))
+entries-are P c is a p = (entries-length c is a, entries-all P c is p)
 
 -- ---- one key
 

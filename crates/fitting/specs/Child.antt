@@ -7,7 +7,7 @@ use mathlib.Core.List.{List, [], _∷_, _++_, map}
 use lib.Dec.{T, eqb→eq}
 use Rattle.base.specs.Lists.{All, all}
 use Rattle.base.specs.BranchLaws.{if-elim}
-use Rattle.base.specs.ListLaws.{map-map, map-append, all-map, all-append, all-of}
+use Rattle.base.specs.ListLaws.{map-map, map-append, all-map, all-append, all-of, entries-all}
 use Rattle.rules.specs.Book.{Literal, fact, same, Origin, Disjunct}
 use Rattle.rules.specs.Sheet.{rel, Model, Limits}
 use Rattle.rules.specs.Look.{Meaning, elem, originMeaning, headMeanings}
@@ -15,7 +15,7 @@ use Rattle.rules.specs.Bound.{Bound}
 use Rattle.rules.specs.Child.{enter, enters, Child, recorded, tell, tells, child}
 use Rattle.rules.specs.Arrangement.{Arrangement, isTrue, originValue, disjunctTrue}
 use Rattle.laws.specs.Tables.{insertFact-all}
-use Rattle.fitting.specs.Tools.{all-image, entries-map, entries-all}
+use Rattle.fitting.specs.Tools.{all-image, entries-map}
 use Rattle.fitting.specs.Look.{thingOf, thingsOf}
 use Rattle.fitting.specs.Enter.{Low, FactFits, FitsBy, has-still, Follows, MeaningLow, enter-fits, enters-fits}
 use Rattle.fitting.specs.Merge.{merge-fits}

@@ -41,8 +41,3 @@ pub entries-map : (h : ℕ → ℕ) (c is : List ℕ) → map h (entries c is) �
 unfolding entries
 entries-map h c [] = refl
 entries-map h c (i ∷ is) = map-append h (take 1 (drop i c)) (entries c is) ∙ ap₂ (λ (a b : List ℕ). a ++ b) (entry-map h i c) (entries-map h c is)
-
-pub entries-all {ℓ κ} : {A : Type ℓ} (P : A → Type κ) (c : List A) (is : List ℕ) → All P c → All P (entries c is)
-unfolding entries
-entries-all P c [] a = tt
-entries-all P c (i ∷ is) a = all-append P (take 1 (drop i c)) (entries c is) (all-take P 1 (drop i c) (all-drop P i c a)) (entries-all P c is a)

@@ -17,18 +17,18 @@ use Rattle.heads.specs.Lists.{Few, relisted, Popped, PushedBack, PushedFront, f
 use Rattle.lists.specs.Header.{unnamed, used-in, nextIn, next-in}
 
 -- The bytes are the image of a state that an image can hold.
-pub record Shows (lim : Limits) (s : State) (p : Bytes) : Type 0 where
+pub record Imaged (lim : Limits) (s : State) (p : Bytes) : Type 0 where
   pub small : SmallLimits lim
   pub storable : StorableState lim s
   pub bytes : ByteState s
   pub is : p ≡ poolBytes lim s
 
 abbrev pub Finished : Bytes → Bytes → Type 0
-Finished p p′ = (lim : Limits) (s : State) → Shows lim s p → (i : ℕ) (ws : List ℕ) → s .waiting ≡ i ∷ ws → length (s .complete) < 64
+Finished p p′ = (lim : Limits) (s : State) → Imaged lim s p → (i : ℕ) (ws : List ℕ) → s .waiting ≡ i ∷ ws → length (s .complete) < 64
     → p′ ≡ poolBytes lim (changed s (s .next) ws (s .complete ++ (i ∷ [])) (s .bounded) (s .slots))
 
 abbrev pub Forgotten : Bytes → Bytes → Type 0
-Forgotten p p′ = (lim : Limits) (s : State) → Shows lim s p → (i : ℕ) (ws : List ℕ) → s .waiting ≡ i ∷ ws
+Forgotten p p′ = (lim : Limits) (s : State) → Imaged lim s p → (i : ℕ) (ws : List ℕ) → s .waiting ≡ i ∷ ws
     → p′ ≡ poolBytes lim (changed s (s .next) ws (s .complete) (s .bounded) (s .slots))
 
 abbrev pub Room : State → Type 0
@@ -47,10 +47,10 @@ abbrev Opened : ℕ → Bool → ℕ → State → State
 Opened i cut next s = changed s next (schedule (schedulerOf (s .scheduler)) (opens i cut) (s .waiting)) (s .complete) (s .bounded ++ cuts i cut) (s .slots)
 
 abbrev pub Enlisted : ℕ → Bool → Bytes → Bytes → Type 0
-Enlisted i cut p p′ = (lim : Limits) (s : State) → Shows lim s p → Octet i → Room s → p′ ≡ poolBytes lim (Opened i cut (s .next) s)
+Enlisted i cut p p′ = (lim : Limits) (s : State) → Imaged lim s p → Octet i → Room s → p′ ≡ poolBytes lim (Opened i cut (s .next) s)
 
 abbrev pub Joined : ℕ → Bool → Bytes → Bytes → Type 0
-Joined i cut p p′ = (lim : Limits) (s : State) → Shows lim s p → Octet i → Room s → p′ ≡ poolBytes lim (Opened i cut (s .next + 1) s)
+Joined i cut p p′ = (lim : Limits) (s : State) → Imaged lim s p → Octet i → Room s → p′ ≡ poolBytes lim (Opened i cut (s .next + 1) s)
 
 abbrev pub CountedOn : Bytes → Bytes → Type 0
 CountedOn p p′ = (lim : Limits) (s : State) → s .next < 65536 * 65536 → p ≡ poolBytes lim s
@@ -58,7 +58,7 @@ CountedOn p p′ = (lim : Limits) (s : State) → s .next < 65536 * 65536 → p 
 
 -- ---- what an image says
 
-module _ (lim : Limits) (s : State) (p : Bytes) (sh : Shows lim s p) where
+module _ (lim : Limits) (s : State) (p : Bytes) (sh : Imaged lim s p) where
   back : poolIn lim p ≡ s
   back = ap (poolIn lim) (sh .is) ∙ pool-back lim (sh .small) s (sh .storable)
 
@@ -71,11 +71,11 @@ module _ (lim : Limits) (s : State) (p : Bytes) (sh : Shows lim s p) where
   scheduler-is = ap (λ (x : State). x .scheduler) back
 
 -- The next number, read off an image.
-pub shows-next : (lim : Limits) (s : State) (p : Bytes) → Shows lim s p → nextIn p ≡ s .next
+pub shows-next : (lim : Limits) (s : State) (p : Bytes) → Imaged lim s p → nextIn p ≡ s .next
 shows-next lim s p sh = next-in lim p ∙ ap (λ (x : State). x .next) (back lim s p sh)
 
 -- The slots that no list names are the free ones.
-pub shows-free : (lim : Limits) (s : State) (p : Bytes) → Shows lim s p → keep (unnamed p) (from 0 (length (s .slots))) ≡ free s
+pub shows-free : (lim : Limits) (s : State) (p : Bytes) → Imaged lim s p → keep (unnamed p) (from 0 (length (s .slots))) ≡ free s
 unfolding free
 shows-free lim s p sh = ap (λ (us : List ℕ). keep (λ i. not (mem i us)) (from 0 (length (s .slots)))) (used-in lim p ∙ ap used (back lim s p sh))
 
@@ -107,7 +107,7 @@ pub forgotten : (p p₁ : Bytes) → Popped 0 p p₁ → Forgotten p p₁
 forgotten p p₁ pop lim s sh i ws e = pop lim s (few lim s p sh) (sh .is) i ws e
 
 -- Open or bounded, at the back or at the front.
-scheduled-none : (sc : Scheduler) (ws : List ℕ) → ws ≡ schedule sc [] ws
+pub scheduled-none : (sc : Scheduler) (ws : List ℕ) → ws ≡ schedule sc [] ws
 unfolding schedule pushed
 scheduled-none fifo ws = sym (append-nil ws)
 scheduled-none lifo ws = refl

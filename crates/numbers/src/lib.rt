@@ -18,13 +18,40 @@ pub enum Checked {
     Refused(u32, usize),
 }
 
-pub fn read_number(book: &[u8], at: usize) -> Value
+// A reader over the book keeps the book and its place.
+pub struct Reader<'a> {
+    pub book: &'a [u8],
+    pub at: usize,
+}
+
+// The number at a place, with the place behind it.
+fn number_at(book: &[u8], at: usize) -> Value
     ensures { λ r. ⌜ r ≡ value (number (now (book .entry)) at) ⌝ }
 {
     if rest(book, at) < 2 {
         return Value::Fault(2, at);
     }
     Value::Is(num16(book, at), at + 2)
+}
+
+pub fn reader_at<'a>(book: &'a [u8], at: usize) -> Reader<'a>
+    ensures { λ r. ⌜ (r .book ≡ book .entry) × (r .at ≡ at) ⌝ }
+{
+    Reader { book, at }
+}
+
+// The number that a reader stands at.
+pub fn next<'a>(r: Reader<'a>) -> Value
+    ensures { λ s. ⌜ s ≡ value (number (now (r .entry .book)) (r .entry .at)) ⌝ }
+{
+    number_at(r.book, r.at)
+}
+
+// Every number of a book is read by a reader.
+pub fn read_number(book: &[u8], at: usize) -> Value
+    ensures { λ r. ⌜ r ≡ value (number (now (book .entry)) at) ⌝ }
+{
+    next(reader_at(book, at))
 }
 
 // A count or an arity, in its range.

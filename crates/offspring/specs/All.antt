@@ -28,7 +28,7 @@ use Rattle.pools.specs.Count.{cnt, cnt-all}
 use Rattle.pools.specs.Slots.{stored-length, Free, free-are, free-once, placed-length, placed-all, placed-slots, placed-cnt, placed-low, placed-differ}
 use Rattle.pools.specs.Tidy.{Listed, placesOf, Tidy}
 use Rattle.pools.specs.Moves.{New, placed-tidy}
-use Rattle.demands.specs.Shape.{storable-model, byte-model, tidy-storable, tidy-bytes}
+use Rattle.demands.specs.Shape.{storable-model, byte-model, tidy-storable, tidy-bytes, places-few}
 use Rattle.placing.specs.OneByOne.{theChild, place-one, free-next, free-count}
 use Rattle.texts.specs.Reads.{Follow}
 use Rattle.texts.specs.Names.{namesIn}
@@ -36,7 +36,7 @@ use Rattle.texts.specs.Text.{DisjunctText}
 use Rattle.texts.specs.Parts.{disjuncts-grow}
 use Rattle.skips.specs.Rest.{Skips}
 use Rattle.deriving.specs.Derived.{Parent, DisjunctHere, DisjunctsHere}
-use Rattle.lists.specs.Moves.{Shows, Room}
+use Rattle.lists.specs.Moves.{Imaged, Room, scheduled-none}
 use Rattle.adopting.specs.Slots.{Fitting}
 use Rattle.offspring.specs.One.{PlacedOne}
 
@@ -48,7 +48,7 @@ pub record Ground (lim : Limits) (b : Book) : Type 0 where
   pub elements : lim .elements ≤ 256
 
 -- A tidy state is shown by its image.
-pub tidy-shows : (lim : Limits) (b : Book) (s : State) (p : Bytes) → Ground lim b → Tidy lim b s → length (s .slots) ≤ 64 → p ≡ poolBytes lim s → Shows lim s p
+pub tidy-shows : (lim : Limits) (b : Book) (s : State) (p : Bytes) → Ground lim b → Tidy lim b s → length (s .slots) ≤ 64 → p ≡ poolBytes lim s → Imaged lim s p
 unfolding mostSlots
 tidy-shows lim b s p g t r e = record {
   small = g .limits;
@@ -81,10 +81,7 @@ PlacedAll book at n v bd lim place env base slots p p′ = (b : Book) → Ground
 
 -- ---- one child: what the state has then
 
-places-few : (st : Strategy) (n : ℕ) → n ≤ 128 → places st n ≤ 128
-unfolding places
-places-few linear n l = omega arith
-places-few fair n l = omega arith
+
 
 -- Children in free slots are new.
 new-ones : (lim : Limits) (b : Book) (s : State) (place : ℕ) (ks : List Child) → place < placesOf b s → length ks ≤ length (free s) → s .next + length ks ≤ numbers
@@ -146,7 +143,7 @@ module _ (lim : Limits) (b : Book) (g : Ground lim b) (slots place : ℕ) (few :
         room = room;
       }
 
-  pub shown : Shows lim s p
+  pub shown : Imaged lim s p
   shown = tidy-shows lim b s p g (o .tidy) (let z = o .size in omega arith) (o .image)
 
   after-tidy : Tidy lim b after
@@ -179,10 +176,7 @@ module _ (lim : Limits) (b : Book) (g : Ground lim b) (slots place : ℕ) (few :
 
 -- ---- none left
 
-scheduled-none : (sc : Scheduler) (ws : List ℕ) → schedule sc [] ws ≡ ws
-unfolding schedule pushed
-scheduled-none fifo ws = append-nil ws
-scheduled-none lifo ws = refl
+
 
 placed-none : (s : State) (place : ℕ) → withPlaced s (placed (free s) place (s .next) []) .state ≡ s
 unfolding placed withPlaced done changed stored openSlots cutSlots
@@ -195,7 +189,7 @@ placed-none s place = ap (λ l. withPlaced s l .state) (go (free s)) ∙ same
     same : withPlaced s [] .state ≡ s
     same =
         let n : s .next + 0 ≡ s .next = omega arith in
-        let w = scheduled-none (schedulerOf (s .scheduler)) (s .waiting) in
+        let w = sym (scheduled-none (schedulerOf (s .scheduler)) (s .waiting)) in
         let b = append-nil (s .bounded) in
         λ i. record { scheduler = s .scheduler; strategy = s .strategy; next = n i; waiting = w i; complete = s .complete; bounded = b i; slots = s .slots }
 

@@ -19,12 +19,12 @@ use Rattle.child.specs.Whole.{Made}
 use Rattle.deriving.specs.Derived.{Parent, DisjunctHere, IsDerived}
 use Rattle.placing.specs.OneByOne.{theChild}
 use Rattle.lists.specs.Header.{unnamed, LowestFree, lowest-first, lowest-gone}
-use Rattle.lists.specs.Moves.{Shows, shows-free}
+use Rattle.lists.specs.Moves.{Imaged, shows-free}
 use Rattle.adopting.specs.Slots.{Fitting, Adopted}
 
 abbrev pub PlacedOne : Bytes → ℕ → ℕ → Bound → Limits → ℕ → List ℕ → List ℕ → ℕ → Bytes → Bytes → Type 0
 PlacedOne book at v bd lim place env base slots p p′ = (m : Model) → Parent book lim base m (take v env) → (d : Disjunct) (e : ℕ) → DisjunctHere book at (length env) v d e
-    → (s : State) → Shows lim s p → length (s .slots) ≡ slots → (i : ℕ) (fs : List ℕ) → free s ≡ i ∷ fs
+    → (s : State) → Imaged lim s p → length (s .slots) ≡ slots → (i : ℕ) (fs : List ℕ) → free s ≡ i ∷ fs
     → let k = child lim bd m (take v env) (completedDisjunct v d) in
     k .over ≡ false → Fitting lim s i place (k .model) → p′ ≡ poolBytes lim (withPlaced s (theChild s place i k ∷ []) .state)
 
@@ -36,7 +36,7 @@ slot-inside size i n len h l =
     omega arith
 
 -- The lowest free slot is the first of those that are free.
-lowest-is : (lim : Limits) (s : State) (p : Bytes) → Shows lim s p → (r : ℕ) → LowestFree p (length (s .slots)) r → r ≤ length (s .slots)
+lowest-is : (lim : Limits) (s : State) (p : Bytes) → Imaged lim s p → (r : ℕ) → LowestFree p (length (s .slots)) r → r ≤ length (s .slots)
     → (i : ℕ) (fs : List ℕ) → free s ≡ i ∷ fs → (r < length (s .slots)) × (r ≡ i)
 lowest-is lim s p sh r l h i fs e = elim (native.Mathlib.Decide.decLe (suc r) (length (s .slots))) [
   | yes k ↦ (k, ap (λ (x : List ℕ). getD x 0 0) (sym (lowest-first p (length (s .slots)) r l k) ∙ shows-free lim s p sh ∙ e))

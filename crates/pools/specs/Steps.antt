@@ -114,7 +114,7 @@ module _ (s : State) (i : ℕ) (ws : List ℕ) (e : s .waiting ≡ i ∷ ws) whe
 
 -- ---- places
 
-place-right : (st : Strategy) (i n : ℕ) → 0 < n → placeAfter st i n < places st n
+pub place-right : (st : Strategy) (i n : ℕ) → 0 < n → placeAfter st i n < places st n
 unfolding placeAfter places
 place-right linear i n l = omega arith
 place-right fair i n l = let m = mod-lt (suc i) l in omega arith
@@ -195,7 +195,7 @@ module _ (lim : Limits) (b : Book) (kids : KidsSound lim b) where
 
 -- ---- the number of slots stays
 
-base-size : (s : State) (i : ℕ) (ws : List ℕ) → length (withoutBase s i ws .slots) ≡ length (s .slots)
+pub base-size : (s : State) (i : ℕ) (ws : List ℕ) → length (withoutBase s i ws .slots) ≡ length (s .slots)
 unfolding withoutBase changed freed
 base-size s i ws = length-set (s .slots) i blank
 

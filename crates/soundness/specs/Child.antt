@@ -10,7 +10,7 @@ use lib.ListN.{length, take, drop, length-append, length-map}
 use lib.Dec.{T, ltb, nltb→le}
 use Rattle.base.specs.Lists.{All, entries}
 use Rattle.base.specs.BranchLaws.{if-elim, or-no}
-use Rattle.base.specs.ListLaws.{all-all, all-map, all-append, all-take, all-drop, all-in, in-mem, In}
+use Rattle.base.specs.ListLaws.{all-all, all-map, all-append, all-take, all-drop, all-in, in-mem, In, entries-length, entries-all}
 use Rattle.rules.specs.Book.{Literal, fact, same, Disjunct, Sequent, Names}
 use Rattle.rules.specs.Sheet.{Fact, Model, domain, known, Limits}
 use Rattle.rules.specs.Look.{Meaning, elem, originMeaning, headMeanings}
@@ -39,7 +39,7 @@ not-big lim m t =
       fewFacts = nltb→le (lim .facts) (length (m .facts)) (b .1);
     }
 
-fact-tidy : (d : Names) (B : ℕ → Type 0) (now : History) (m : Model) (f : Fact) → Tidy d B now m → All (Yielded (m .keys)) (f .args) → T (factDeclared d f) → Tidy d B now (withFact m f)
+pub fact-tidy : (d : Names) (B : ℕ → Type 0) (now : History) (m : Model) (f : Fact) → Tidy d B now m → All (Yielded (m .keys)) (f .args) → T (factDeclared d f) → Tidy d B now (withFact m f)
 fact-tidy d B now m f g a t =
     let l = g .linked in
     record {
@@ -97,30 +97,14 @@ module _ (lim : Limits) (d : Names) (B : ℕ → Type 0) (env : List Meaning) (m
 
 -- ---- the variables of a disjunct
 
-entries-length : (c is : List ℕ) → All (λ i. i < length c) is → length (entries c is) ≡ length is
-unfolding entries
-entries-length c [] a = refl
-entries-length c (i ∷ is) a =
-    length-append (take 1 (drop i c)) (entries c is) ∙ (let p = one c i (a .0) in let q = entries-length c is (a .1) in omega arith)
-  where
-    one : (c : List ℕ) (i : ℕ) → i < length c → length (take 1 (drop i c)) ≡ 1
-    one [] i l = absurd (omega arith)
-    one (x ∷ c) zero l = refl
-    one (x ∷ c) (suc i) l = one c i (omega arith)
-
-entries-all : (P : ℕ → Type 0) (c is : List ℕ) → All P c → All P (entries c is)
-unfolding entries
-entries-all P c [] a = tt
-entries-all P c (i ∷ is) a = all-append P (take 1 (drop i c)) (entries c is) (all-take P 1 (drop i c) (all-drop P i c a)) (entries-all P c is a)
-
-head-means : (d : Names) (B : ℕ → Type 0) (c : List ℕ) → All B c → (j : Disjunct) → All (WfOrigin d (length c)) (j .origins) → All (Means d B) (headMeanings c j)
+pub head-means : (d : Names) (B : ℕ → Type 0) (c : List ℕ) → All B c → (j : Disjunct) → All (WfOrigin d (length c)) (j .origins) → All (Means d B) (headMeanings c j)
 unfolding headMeanings originMeaning
 head-means d B c a j w = all-append (Means d B) (map elem c) (map (originMeaning c) (j .origins))
     (all-map B (Means d B) elem (λ e b. b) c a)
     (all-map (WfOrigin d (length c)) (Means d B) (originMeaning c)
     (λ o v. (entries-all B c (o .args) a, subst (λ n. T (declaredAs d (3 + o .kind) (o .witness) n)) (sym (entries-length c (o .args) (v .2))) (v .1))) (j .origins) w)
 
-head-length : (c : List ℕ) (j : Disjunct) → length (headMeanings c j) ≡ length c + length (j .origins)
+pub head-length : (c : List ℕ) (j : Disjunct) → length (headMeanings c j) ≡ length c + length (j .origins)
 unfolding headMeanings
 head-length c j = length-append (map elem c) (map (originMeaning c) (j .origins)) ∙ ap₂ _+_ (length-map c elem) (length-map (j .origins) (originMeaning c))
 
@@ -137,7 +121,7 @@ child-neat lim b d m c j g a w t =
     record { small = r .small t; listed = r .tidy .listed; linked = r .tidy .linked }
 
 -- The domain's elements are known.
-domain-known : (m : Model) → All (λ e. T (known m e)) (domain m)
+pub domain-known : (m : Model) → All (λ e. T (known m e)) (domain m)
 unfolding known
 domain-known m = all-all (λ e. In e (domain m)) (λ e. T (known m e)) (λ e. in-mem e (domain m)) (domain m) (all-in (domain m))
 

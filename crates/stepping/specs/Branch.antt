@@ -26,10 +26,11 @@ use Rattle.rules.specs.Calls.{boundOf}
 use Rattle.laws.specs.Firing.{Fired, firing-is, visits-within}
 use Rattle.soundness.specs.Tools.{known-yielded}
 use Rattle.soundness.specs.Join.{yielded-low}
+use Rattle.soundness.specs.Child.{domain-known}
 use Rattle.pools.specs.Count.{cnt-all}
 use Rattle.pools.specs.Slots.{free-more}
 use Rattle.pools.specs.Tidy.{placesOf}
-use Rattle.pools.specs.Steps.{strategyIn, visited, KidsSound, same-length, first-listed}
+use Rattle.pools.specs.Steps.{strategyIn, visited, KidsSound, same-length, first-listed, place-right}
 use Rattle.pools.specs.Steps as pools
 use Rattle.demands.specs.Kept.{kids-sound}
 use Rattle.texts.specs.Names.{namesIn, countAt}
@@ -52,19 +53,15 @@ pub record Fires (text p : Bytes) (z : Standing text p) (i q a : ℕ) (base env 
   pub end : ℕ
   pub at : FiresAt text (firing (sheetAt (z .state) i .model) (visited (rules (z .book)) (z .state) i)) env q a end
 
-pub record Firing (text p : Bytes) (i q a : ℕ) (base env : List ℕ) : Type 0 where
+pub record HasFired (text p : Bytes) (i q a : ℕ) (base env : List ℕ) : Type 0 where
   pub standing : Standing text p
   pub fires : Fires text p standing i q a base env
 
-pub firing-here : (text p : Bytes) (i q a : ℕ) (base env : List ℕ) (z : Standing text p) → Fires text p z i q a base env → Firing text p i q a base env
-firing-here text p i q a base env z f = record { standing = z; fires = f }
+pub has-fired : (text p : Bytes) (i q a : ℕ) (base env : List ℕ) (z : Standing text p) → Fires text p z i q a base env → HasFired text p i q a base env
+has-fired text p i q a base env z f = record { standing = z; fires = f }
 
 abbrev pub Branched : Bytes → Bytes → ℕ → ℕ → ℕ → ℕ → ℕ → List ℕ → List ℕ → ℕ → Bytes → Type 0
 Branched text p i q a kind number base env r p′ = (z : Standing text p) → Fires text p z i q a base env → Went text p z kind number r p′
-
-domain-known : (m : Model) → All (λ e. T (known m e)) (domain m)
-unfolding known
-domain-known m = all-all (λ e. In e (domain m)) (λ e. T (known m e)) (λ e. in-mem e (domain m)) (domain m) (all-in (domain m))
 
 -- ---- numbers of visits
 
@@ -80,11 +77,6 @@ visits-low : (st : Strategy) (p : ℕ) (rs : List Sequent) → All (λ (x : ℕ 
 unfolding visits
 visits-low linear p rs = all-numbers rs
 visits-low fair p rs = all-append (λ (x : ℕ × Sequent). x .0 < length rs) (drop p (numbered 0 rs)) (take p (numbered 0 rs)) (all-drop (λ (x : ℕ × Sequent). x .0 < length rs) p (numbered 0 rs) (all-numbers rs)) (all-take (λ (x : ℕ × Sequent). x .0 < length rs) p (numbered 0 rs) (all-numbers rs))
-
-place-there : (st : Strategy) (i n : ℕ) → i < n → placeAfter st i n < places st n
-unfolding placeAfter places
-place-there linear i n l = omega arith
-place-there fair i n l = let m = native.Mathlib.Nat.mod-lt (suc i) (le-trans (omega arith) l) in omega arith
 
 not-over : (b : Bool) → b ≡ false → T (not b)
 not-over true e = absurd (subst T e tt)
@@ -268,7 +260,7 @@ module _ (text p : Bytes) (z : Standing text p) (i q a : ℕ) (base env : List �
               head = sq .head;
               end = f .end;
               here = here env₁ l₁;
-              there = subst (λ (c : ℕ). c < placesOf (z .book) s) (sym place-is) (subst (λ c. place < places (strategyIn s) c) (same-length (z .book)) (place-there (strategyIn s) q (length (rules (z .book))) (what .visited)));
+              there = subst (λ (c : ℕ). c < placesOf (z .book) s) (sym place-is) (subst (λ c. place < places (strategyIn s) c) (same-length (z .book)) (place-right (strategyIn s) q (length (rules (z .book))) (omega (arith, what .visited))));
               good = subst (All (Good L (z .book))) (sym late-is) all-good;
               fits = subst (λ (c : List Child). length c ≤ length (free (withoutBase s i (f .rest)))) (sym late-is)
                   (le-trans (enough .1 .0) (free-more s i (f .rest) (f .waiting) (z .tidy .once) (inside text p z i (f .rest) (f .waiting))));

@@ -22,7 +22,7 @@ use Rattle.texts.specs.Text.{LiteralText, SequentText}
 use Rattle.texts.specs.Parts.{sequent-grows}
 use Rattle.skips.specs.Rest.{SkipsMany}
 use Rattle.lists.specs.Header.{nextIn}
-use Rattle.lists.specs.Moves.{Shows, shows-next}
+use Rattle.lists.specs.Moves.{Imaged, shows-next}
 use Rattle.stepping.specs.Standing.{L}
 
 -- ---- the head of a sequent
@@ -70,11 +70,11 @@ unfoldable pub roomOf : State → ℕ → ℕ
 roomOf s n = if (ltb (suc (length (free s))) n) (λ _. 16) (λ _. if (ltb numbers (s .next + n)) (λ _. 17) (λ _. 0))
 
 abbrev pub RoomFor : Bytes → ℕ → ℕ → Type 0
-RoomFor p n r = (s : State) → Shows L s p → ((j : ℕ) → cnt j (used s) ≤ 1) → All (λ j. j < length (s .slots)) (used s) → r ≡ roomOf s n
+RoomFor p n r = (s : State) → Imaged L s p → ((j : ℕ) → cnt j (used s) ≤ 1) → All (λ j. j < length (s .slots)) (used s) → r ≡ roomOf s n
 
 module _ (p : Bytes) (n : ℕ) where
   -- What the header counts is what the state lists.
-  used-count : (s : State) → Shows L s p → getD p 12 0 + getD p 13 0 + getD p 14 0 ≡ length (used s)
+  used-count : (s : State) → Imaged L s p → getD p 12 0 + getD p 13 0 + getD p 14 0 ≡ length (used s)
   unfolding used poolBytes poolHead poolMark long word
   used-count s sh =
       let a = ap (λ (x : Bytes). getD x 12 0) (sh .is) in
@@ -82,7 +82,7 @@ module _ (p : Bytes) (n : ℕ) where
       let c = ap (λ (x : Bytes). getD x 14 0) (sh .is) in
       omega (arith, length-append (s .waiting) (s .complete ++ s .bounded), length-append (s .complete) (s .bounded))
 
-  slot-count : (s : State) → Shows L s p → (length p - 208) / 2128 ≡ length (s .slots)
+  slot-count : (s : State) → Imaged L s p → (length p - 208) / 2128 ≡ length (s .slots)
   unfolding headSize sheetSize
   slot-count s sh = let l = ap length (sh .is) ∙ pool-length L s (sh .storable) in omega arith
 
@@ -95,7 +95,7 @@ module _ (p : Bytes) (n : ℕ) where
       sym (ap (λ b. if b (λ _. 16) (λ _. if (ltb numbers (s .next + n)) (λ _. 17) (λ _. 0))) (lt-ltb (suc (length (free s))) n (omega arith)))
 
   module _ (h : getD p 12 0 + getD p 13 0 + getD p 14 0 + n ≤ (length p - 208) / 2128 + 1) where
-    room-there : (s : State) → Shows L s p → ((j : ℕ) → cnt j (used s) ≤ 1) → All (λ j. j < length (s .slots)) (used s)
+    room-there : (s : State) → Imaged L s p → ((j : ℕ) → cnt j (used s) ≤ 1) → All (λ j. j < length (s .slots)) (used s)
         → roomOf s n ≡ if (ltb numbers (s .next + n)) (λ _. 17) (λ _. 0)
     unfolding roomOf if
     room-there s sh o t =

@@ -33,11 +33,11 @@ use Rattle.stepping.specs.Standing.{L, Standing, Went, Stepped, few, sho
 use Rattle.stepping.specs.Heads.{HeadAt, NextPlace, RoomFor}
 use Rattle.stepping.specs.Ways.{step-none, step-done}
 use Rattle.stepping.specs.Settling.{Settled}
-use Rattle.stepping.specs.Branch.{Fires, Firing, Branched, text-there, elements, branch-failed, branch-over, branch-full, branch-settled}
+use Rattle.stepping.specs.Branch.{Fires, HasFired, Branched, text-there, elements, branch-failed, branch-over, branch-full, branch-settled}
 
 -- ---- a branch
 
-module _ (text p : Bytes) (i q a : ℕ) (base env : List ℕ) (g : Firing text p i q a base env) where
+module _ (text p : Bytes) (i q a : ℕ) (base env : List ℕ) (g : HasFired text p i q a base env) where
   abbrev z : Standing text p
   z = g .standing
 

@@ -16,7 +16,7 @@ use Rattle.rules.specs.Step.{placed, withPlaced, withoutBase}
 use Rattle.images.specs.Pools.{pool-length}
 use Rattle.pools.specs.Tidy.{placesOf, Tidy}
 use Rattle.pools.specs.Moves.{kept-tidy}
-use Rattle.pools.specs.Steps.{first-listed, base-kept}
+use Rattle.pools.specs.Steps.{first-listed, base-kept, base-size}
 use Rattle.deriving.specs.Derived.{Parent, DisjunctsHere}
 use Rattle.adopting.specs.Slots.{Freed}
 use Rattle.offspring.specs.All.{Ground, tidy-shows, Good, kidsOf, PlacedAll}
@@ -46,9 +46,7 @@ abbrev pub Settled : Bytes → ℕ → ℕ → ℕ → ℕ → Bound → ℕ →
 Settled text i at n v bd place env base p p′ = (g : Parting text i at n v bd place env base p)
     → p′ ≡ poolBytes L (withPlaced (withoutBase (g .state) i (g .rest)) (placed (free (withoutBase (g .state) i (g .rest))) place (g .state .next) (kidsOf bd L v (take v env) (g .model) (g .head))) .state)
 
-base-size : (s : State) (i : ℕ) (ws : List ℕ) → length (withoutBase s i ws .slots) ≡ length (s .slots)
-unfolding withoutBase changed freed
-base-size s i ws = length-set (s .slots) i blank
+
 
 pub settled : (text : Bytes) (i at n v : ℕ) (bd : Bound) (place : ℕ) (env base : List ℕ) (p p₁ p₂ : Bytes) → Freed L i p p₁
     → PlacedAll text at n v bd L place env base ((length p - 208) / 2128) p₁ p₂ → Settled text i at n v bd place env base p p₂

@@ -40,7 +40,7 @@ use Rattle.slots.specs.Carry.{loaded-holds}
 use Rattle.enter.specs.Grow.{Sturdy}
 use Rattle.enter.specs.Keep.{Carries}
 use Rattle.evalforms.specs.Basis.{Basis}
-use Rattle.lists.specs.Moves.{Shows}
+use Rattle.lists.specs.Moves.{Imaged}
 use Rattle.offspring.specs.All.{Ground, tidy-shows}
 
 -- The limits of this version, as code has them.
@@ -83,7 +83,7 @@ module _ (text p : Bytes) (z : Standing text p) where
   unfolding mostSlots
   few = z .roomy .few
 
-  pub shows : Shows L s p
+  pub shows : Imaged L s p
   shows = tidy-shows L (z .book) s p ground (z .tidy) few (z .image)
 
   pub names-are : z .book .names ≡ namesIn text

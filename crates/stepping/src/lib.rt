@@ -27,7 +27,7 @@ ghost use Rattle.firing.specs.Answers.{Elements};
 ghost use Rattle.stepping.specs.Standing.{L, Standing, Stepped};
 ghost use Rattle.stepping.specs.Heads.{HeadAt, NextPlace, RoomFor};
 ghost use Rattle.stepping.specs.Settling.{Settled};
-ghost use Rattle.stepping.specs.Branch.{Firing, Branched};
+ghost use Rattle.stepping.specs.Branch.{HasFired, Branched};
 
 // Where the head of the sequent at a place stands: the number of its disjuncts.
 fn head_at(book: &[u8], a: usize) -> usize
@@ -124,7 +124,7 @@ fn branch(
     env: &mut [u64],
     dom: &mut [u64],
 ) -> u32
-    requires { ⌜ Firing (now book) (now pool) i q a (now base) (now env) × ((8 ≤ length (now env)) × ((128 ≤ length (now dom)) × (length (now w) ≡ length (now base)))) ⌝ }
+    requires { ⌜ HasFired (now book) (now pool) i q a (now base) (now env) × ((8 ≤ length (now env)) × ((128 ≤ length (now dom)) × (length (now w) ≡ length (now base)))) ⌝ }
     ensures { λ r. ⌜ Branched (now (book .entry)) (now (pool .entry)) i q a kind number (now (base .entry)) (now (env .entry)) r (now (pool .exit)) ⌝ }
 {
     let at = head_at(book, a);

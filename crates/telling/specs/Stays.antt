@@ -45,28 +45,6 @@ unfolding tooBig
 small-fits lim m s =
     rw (le-ltb (lim .elements) (m .created) (s .fewCreated), le-ltb (lim .keys) (length (m .keys)) (s .fewKeys), le-ltb (lim .facts) (length (m .facts)) (s .fewFacts))
 
--- ---- a fact
-
-pub fact-tidy : (d : Names) (B : ℕ → Type 0) (now : History) (m : Model) (f : Fact) → Tidy d B now m → All (Yielded (m .keys)) (f .args) → T (factDeclared d f) → Tidy d B now (withFact m f)
-fact-tidy d B now m f g a t = record {
-  listed = record {
-    keysRise = g .listed .keysRise;
-    factsRise = insertFact-rises f (m .facts) (g .listed .factsRise);
-    keysDeclared = g .listed .keysDeclared;
-    factsDeclared = insertFact-all (λ (x : Fact). T (factDeclared d x)) f (m .facts) t (g .listed .factsDeclared);
-  };
-  linked = record {
-    keyArgs = g .linked .keyArgs;
-    factArgs = insertFact-all (FactOver (Yielded (m .keys))) f (m .facts) a (g .linked .factArgs);
-    low = g .linked .low;
-    long = g .linked .long;
-    reached = g .linked .reached;
-    rests = g .linked .rests;
-    gone = g .linked .gone;
-  };
-  follows = g .follows;
-}
-
 -- ---- a merge
 
 refile-rises : (xs : List ℕ) (r : Files) → Rising (r .0) → Rising (refileIn xs r .0)

@@ -50,7 +50,8 @@ use Rattle.bound.specs.Answers.{IsAdmitted}
 use Rattle.telling.specs.declared.Judged.{Judged}
 use Rattle.telling.specs.declared.Judged.the-variants.{Cut, Seen, New}
 use Rattle.telling.specs.Facts.{PutFact, fact-carried, fact-crowds}
-use Rattle.telling.specs.Stays.{small-fits, fact-tidy, merged-carries, merged-digits}
+use Rattle.soundness.specs.Child.{fact-tidy}
+use Rattle.telling.specs.Stays.{small-fits, merged-carries, merged-digits}
 use Rattle.telling.specs.Literals.{Held, LiteralAt, Records, IsRecorded, JudgedAs, IsJudged, Goes, IsTold}
 
 pub true-false : {C : Type 0} → true ≡ false → C

@@ -8,7 +8,7 @@ use Rattle.rules.specs.Image.{part}
 use Rattle.sheets.specs.Load.{Loaded}
 use Rattle.evalforms.specs.Basis.{Evaluated}
 use Rattle.stepping.specs.Standing.{L, basis}
-use Rattle.stepping.specs.Branch.{Firing, firing-here, Branched}
+use Rattle.stepping.specs.Branch.{HasFired, has-fired, Branched}
 use Rattle.stepping.specs.Outs.{out-none, first-inside, on-base, fires-at, out-done, out-branch}
 use Rattle.stepping.proofs.step_in.Statement.{statement}
 use Rattle.stepping.proofs.step_in.Tie as tie
@@ -88,7 +88,7 @@ branch-requires c κs =
     let x = c .before .before .before .before .before .before .q .given in
     let e = c .before .before .before .before .before .before .before .before .before .before .before .before .evaluate-form in
     let f = fires-at (a .book .now) (a .pool .now) (a .kind) (a .number) some _ l (e .last .1 .1 .1 .1 .1 .1 .0) (e .result) v (x .0 .0) (x .0 .1 .0) (x .0 .1 .1 .0) (x .1) (s .pre .0) in (
-      subst (λ y. Firing (a .book .now) (a .pool .now) y (x .0 .0) (x .0 .1 .0) (c .before .before .before .before .before .before .before .before .before .before .before .before .before .before .before .before .before .before .before .before .get-sheet .last .1 .1 .0) (e .last .1 .1 .1 .1 .1 .1 .0)) (sym j) (firing-here (a .book .now) (a .pool .now) _ _ _ _ _ (s .pre .0) f),
+      subst (λ y. HasFired (a .book .now) (a .pool .now) y (x .0 .0) (x .0 .1 .0) (c .before .before .before .before .before .before .before .before .before .before .before .before .before .before .before .before .before .before .before .before .get-sheet .last .1 .1 .0) (e .last .1 .1 .1 .1 .1 .1 .0)) (sym j) (has-fired (a .book .now) (a .pool .now) _ _ _ _ _ (s .pre .0) f),
       (omega (arith, e .kept .1 .1 .1 .1 .1 .1 .0, s .pre .1 .1 .1 .0), (omega (arith, e .kept .1 .1 .1 .1 .1 .1 .1 .0, s .pre .1 .1 .1 .1), s .pre .1 .1 .0 ∙ sym (s .pre .1 .0) ∙ sym (c .before .before .before .before .before .before .before .before .before .before .before .before .before .before .before .before .before .before .before .before .get-sheet .kept .1 .1 .0))),
     )
 
