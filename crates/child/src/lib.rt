@@ -12,7 +12,6 @@ use telling::Judged;
 use telling::list_here;
 use telling::tell;
 use words::num16;
-ghost use mathlib.Core.Path.{_≡_};
 ghost use mathlib.Core.Bool.{false};
 ghost use Prim.Native.Nat.{_+_, _≤_, _<_};
 ghost use lib.ListN.{length, take};

@@ -3,7 +3,6 @@
 ghost use mathlib.Core.Path.{_≡_};
 ghost use Prim.Native.Nat.{_≤_, _<_};
 ghost use lib.ListN.{length, take};
-ghost use Rattle.base.specs.Lists.{All};
 ghost use Rattle.choosing.specs.Choosing.{chosen, after, perhaps, Below};
 
 // The indices after these, with a carry; false after the last. The first index is the fastest.

@@ -14,15 +14,16 @@ use Rattle.demands.specs.Chain.{Ends, run-is-chain}
 use Rattle.demands.specs.Worlds.{Call, World, Played, begun, Empty}
 use Rattle.demands.specs.Demand3.{Demand3, demand-3, nothing-keeps-them}
 
--- 1. Every public call accepts all bytes and numbers and has an outcome. If its answer is not 0 then no lent byte differs from before;
--- a run that is refused by 1 to 13 made no step and changed no byte.
+-- 1. Every public call accepts all bytes and numbers and has an outcome: a promise is the graph of a function. If its answer is not 0
+-- then no lent byte differs from before. A run either finds a book without fault, a sound pool and a known bound, or it is refused by 1
+-- to 13, made no step and changed no byte.
 pub record Demand1 (book pool : Bytes) : Type 0 where
   pub opening : (scheduler strategy : ℕ) → ((answer : ℕ) × (after : Bytes) × OpenPromise book pool scheduler strategy answer after)
       × ((openCall book pool scheduler strategy .answer ≡ 0) ⊎ (openCall book pool scheduler strategy .pool ≡ pool))
   pub stepping : (bound number : ℕ) → ((answer : ℕ) × (after : Bytes) × StepPromise book pool bound number answer after)
       × ((stepCall book pool bound number .answer ≡ 0) ⊎ (stepCall book pool bound number .pool ≡ pool))
   pub running : (bound number budget : ℕ) → ((stop steps : ℕ) × (after : Bytes) × RunPromise book pool bound number budget stop steps after)
-      × (SoundFor book pool ⊎ ((runCall book pool bound number budget .steps ≡ 0) × (runCall book pool bound number budget .pool ≡ pool)))
+      × ((SoundFor book pool × T (knownBound bound number)) ⊎ ((runCall book pool bound number budget .steps ≡ 0) × (runCall book pool bound number budget .pool ≡ pool)))
   pub taking : (list : ℕ) (out : Bytes) → ((answer : ℕ) × (after written : Bytes) × TakePromise book pool list out answer after written)
       × ((takeCall book pool list out .answer ≡ 0) ⊎ ((takeCall book pool list out .pool ≡ pool) × (takeCall book pool list out .out ≡ out)))
 

@@ -6,7 +6,7 @@ use mathlib.Core.Logic.{_⊎_, inl, inr}
 use lib.Dec.{T}
 use Rattle.base.specs.BranchLaws.{if-elim, caseL-elim}
 use Rattle.rules.specs.Reading.{Bytes}
-use Rattle.rules.specs.Calls.{Outcome, outcome, openCall, stepCall, RunOutcome, runCall, TakeOutcome, takeOutcome, takeCall, OpenPromise, StepPromise, RunPromise, TakePromise}
+use Rattle.rules.specs.Calls.{knownBound, Outcome, outcome, openCall, stepCall, RunOutcome, runCall, TakeOutcome, takeOutcome, takeCall, OpenPromise, StepPromise, RunPromise, TakePromise}
 use Rattle.demands.specs.Refusals.{checked-elim, soundly-elim}
 use Rattle.demands.specs.Kept.{SoundFor}
 
@@ -65,8 +65,8 @@ module _ (book pool : Bytes) where
       caseL-elim (λ (o : TakeOutcome). (o .answer ≡ 0) ⊎ ((o .pool ≡ pool) × (o .out ≡ out))) _ _ _ (λ _. inr (refl, refl)) (λ _ _ _.
       if-elim (λ (o : TakeOutcome). (o .answer ≡ 0) ⊎ ((o .pool ≡ pool) × (o .out ≡ out))) _ _ _ (λ _. inr (refl, refl)) (λ _. inl refl)))
 
-  -- A run that is refused by 1 to 13 makes no step; one that passes them found a sound pool.
-  pub run-refused : (bound number budget : ℕ) → SoundFor book pool ⊎ ((runCall book pool bound number budget .steps ≡ 0) × (runCall book pool bound number budget .pool ≡ pool))
+  -- A run that is refused by 1 to 13 makes no step; one that passes them found a sound pool and a bound that is known.
+  pub run-refused : (bound number budget : ℕ) → (SoundFor book pool × T (knownBound bound number)) ⊎ ((runCall book pool bound number budget .steps ≡ 0) × (runCall book pool bound number budget .pool ≡ pool))
   unfolding runCall
-  run-refused bound number budget = soundly-elim (λ (o : RunOutcome). SoundFor book pool ⊎ ((o .steps ≡ 0) × (o .pool ≡ pool))) book pool _ _ _ (λ _ _. inr (refl, refl)) (λ b p t.
-      inl (record { says = b; end = p .end; reads = p .reads; length-right = p .length-right; is-sound = t }))
+  run-refused bound number budget = soundly-elim (λ (o : RunOutcome). (SoundFor book pool × T (knownBound bound number)) ⊎ ((o .steps ≡ 0) × (o .pool ≡ pool))) book pool _ _ _ (λ _ _. inr (refl, refl)) (λ b p t.
+      inl (record { says = b; end = p .end; reads = p .reads; length-right = p .length-right; is-sound = t }, p .known))

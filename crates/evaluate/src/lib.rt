@@ -5,7 +5,6 @@ use counts::sequents_start;
 use firing::first_choice;
 use skips::skip_sequent;
 use skips::skip_sequents;
-ghost use mathlib.Core.Path.{_≡_};
 ghost use Prim.Native.Nat.{_+_, _≤_, _<_};
 ghost use lib.ListN.{length, take};
 ghost use Rattle.rules.specs.Reading.{num};

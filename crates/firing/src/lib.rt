@@ -15,7 +15,6 @@ use words::num16;
 ghost use mathlib.Core.Path.{_≡_};
 ghost use Prim.Native.Nat.{_+_, _≤_, _<_};
 ghost use lib.ListN.{length, take};
-ghost use Rattle.rules.specs.Reading.{num};
 ghost use Rattle.look.specs.Answers.{Ready, FactsReady};
 ghost use Rattle.skips.specs.Rest.{Within};
 ghost use Rattle.firing.specs.Answers.{TablesReady, Elements, AllObserved, HaveElements, IsOriginKey, MadeEnv, IsDisjunct, IsHead, Fires, FirstChoice};

@@ -12,7 +12,7 @@ use Rattle.rules.specs.Pool.{State, changed}
 use Rattle.rules.specs.Image.{word, long, padded, poolMark, mostSlots, poolHead, poolBytes, sheetBytes}
 use Rattle.images.specs.Storable.{Octet}
 use Rattle.images.specs.Regions.{padded-length}
-use Rattle.heads.specs.Shift.{lowered, raised, lower-list, raise-list, append-list}
+use Rattle.heads.specs.Shift.{movedDown, movedUp, lower-list, raise-list, append-list}
 
 -- ---- the lists by their numbers
 
@@ -63,7 +63,7 @@ PushedFront j x p p′ = (lim : Limits) (s : State) → Few s → p ≡ poolByte
 -- ---- where a list stands
 
 -- Whatever list j is, its length is one byte, and it stands behind that filled up with zeros.
-pub record Held (s : State) (j : ℕ) (rest : Bytes) : Type 0 where
+pub record Stands (s : State) (j : ℕ) (rest : Bytes) : Type 0 where
   pub pre : Bytes
   pub post : Bytes
   pub behind : Bytes
@@ -76,9 +76,9 @@ module _ (s : State) (rest : Bytes) (f : Few s) where
   front =
       77 ∷ 68 ∷ 76 ∷ 1 ∷ 0 ∷ s .scheduler ∷ s .strategy ∷ 0 ∷ s .next % 65536 % 256 ∷ s .next % 65536 / 256 % 256 ∷ s .next / 65536 % 256 ∷ s .next / 65536 / 256 % 256 ∷ []
 
-  held : (j : ℕ) → j < 3 → Held s j rest
+  stands : (j : ℕ) → j < 3 → Stands s j rest
   unfolding changed poolHead poolMark mostSlots long word
-  held zero h = record {
+  stands zero h = record {
     pre = front;
     post = length (s .complete) ∷ length (s .bounded) ∷ 0 ∷ [];
     behind = padded 64 (s .complete) ++ (padded 64 (s .bounded) ++ rest);
@@ -86,7 +86,7 @@ module _ (s : State) (rest : Bytes) (f : Few s) where
     reach = refl;
     is = λ xs. simp append-assoc;
   }
-  held (suc zero) h = record {
+  stands (suc zero) h = record {
     pre = front ++ (length (s .waiting) ∷ []);
     post = length (s .bounded) ∷ 0 ∷ padded 64 (s .waiting);
     behind = padded 64 (s .bounded) ++ rest;
@@ -94,7 +94,7 @@ module _ (s : State) (rest : Bytes) (f : Few s) where
     reach = omega (arith, padded-length 64 (s .waiting) (f .waiting));
     is = λ xs. simp append-assoc;
   }
-  held (suc (suc zero)) h = record {
+  stands (suc (suc zero)) h = record {
     pre = front ++ (length (s .waiting) ∷ length (s .complete) ∷ []);
     post = 0 ∷ (padded 64 (s .waiting) ++ padded 64 (s .complete));
     behind = rest;
@@ -102,9 +102,9 @@ module _ (s : State) (rest : Bytes) (f : Few s) where
     reach = omega (arith, length-append (padded 64 (s .waiting)) (padded 64 (s .complete)), padded-length 64 (s .waiting) (f .waiting), padded-length 64 (s .complete) (f .complete));
     is = λ xs. simp append-assoc;
   }
-  held (suc (suc (suc j))) h = absurd (omega arith)
+  stands (suc (suc (suc j))) h = absurd (omega arith)
 
-module _ (s : State) (rest : Bytes) (j : ℕ) (k : Held s j rest) where
+module _ (s : State) (rest : Bytes) (j : ℕ) (k : Stands s j rest) where
   abbrev upTo : ℕ → Bytes
   upTo n = k .pre ++ (n ∷ k .post)
 
@@ -138,17 +138,17 @@ module _ (lim : Limits) (s : State) (p : Bytes) (j : ℕ) (h : j < 3) (f : Few s
   shown xs q = e ∙ ap (λ x. poolHead x ++ slots) (sym (relisted-same j s) ∙ ap (relisted j s) q)
 
   pub count-is : getD p (12 + j) 0 ≡ length (listAt j s)
-  count-is = ap (λ l. getD l (12 + j) 0) (shown (listAt j s) refl) ∙ counted s slots j (held s slots f j h) (listAt j s)
+  count-is = ap (λ l. getD l (12 + j) 0) (shown (listAt j s) refl) ∙ counted s slots j (stands s slots f j h) (listAt j s)
 
-  pub first-is : (i : ℕ) (ws : List ℕ) → listAt j s ≡ i ∷ ws → getD p (16 + 64 * j) 0 ≡ i
-  first-is i ws q = ap (λ l. getD l (16 + 64 * j) 0) (shown (i ∷ ws) q) ∙ first s slots j (held s slots f j h) i ws
+  pub first-slot : (i : ℕ) (ws : List ℕ) → listAt j s ≡ i ∷ ws → getD p (16 + 64 * j) 0 ≡ i
+  first-slot i ws q = ap (λ l. getD l (16 + 64 * j) 0) (shown (i ∷ ws) q) ∙ first s slots j (stands s slots f j h) i ws
 
   pub image-rewritten : (g : Bytes → Bytes) (xs ys : List ℕ) → listAt j s ≡ xs
       → ((a z : Bytes) → length a ≡ 16 + 64 * j → g (a ++ (padded 64 xs ++ z)) ≡ a ++ (padded 64 ys ++ z))
       → set (g p) (12 + j) (length ys) ≡ poolBytes lim (relisted j s ys)
   unfolding poolBytes slots
   image-rewritten g xs ys q law =
-      ap (λ l. set (g l) (12 + j) (length ys)) (shown xs q) ∙ rewritten s slots j (held s slots f j h) g xs ys law
+      ap (λ l. set (g l) (12 + j) (length ys)) (shown xs q) ∙ rewritten s slots j (stands s slots f j h) g xs ys law
       ∙ ap (λ xs. poolHead (relisted j s ys) ++ flat (map (sheetBytes lim) xs)) (sym (relisted-slots j s ys))
 
 -- ---- the ways out
@@ -157,13 +157,13 @@ module _ (j : ℕ) (h : j < 3) (p : Bytes) (n : ℕ) (e : n ≡ getD p (12 + j) 
   pub pop-none : n ≡ 0 → Popped j p p
   pop-none z lim s f q i ws r = let c = e ∙ count-is lim s p j h f q ∙ ap length r in absurd (omega arith)
 
-  pub pop-out : (p′ : Bytes) → p′ ≡ set (lowered (16 + 64 * j) p) (12 + j) (n - 1) → Popped j p p′
+  pub pop-out : (p′ : Bytes) → p′ ≡ set (movedDown (16 + 64 * j) p) (12 + j) (n - 1) → Popped j p p′
   pop-out p′ o lim s f q i ws r =
       let c : n ≡ suc (length ws) = e ∙ count-is lim s p j h f q ∙ ap length r in
       let l : length ws < 64 = omega (arith, few-at j s f, ap length r) in
       let m : n - 1 ≡ length ws = omega arith in
-      o ∙ ap (λ k. set (lowered (16 + 64 * j) p) (12 + j) k) m
-      ∙ image-rewritten lim s p j h f q (lowered (16 + 64 * j)) (i ∷ ws) ws r (λ a z g. lower-list a z (16 + 64 * j) g i ws l)
+      o ∙ ap (λ k. set (movedDown (16 + 64 * j) p) (12 + j) k) m
+      ∙ image-rewritten lim s p j h f q (movedDown (16 + 64 * j)) (i ∷ ws) ws r (λ a z g. lower-list a z (16 + 64 * j) g i ws l)
 
   module _ (x : ℕ) where
     pub back-full : 64 ≤ n → PushedBack j x p p
@@ -181,11 +181,11 @@ module _ (j : ℕ) (h : j < 3) (p : Bytes) (n : ℕ) (e : n ≡ getD p (12 + j) 
         o ∙ ap₂ (λ u v. set (set p (16 + 64 * j + u) v) (12 + j) (u + 1)) c y ∙ ap (λ k. set (set p (16 + 64 * j + length xs) x) (12 + j) k) (ap (λ u. u + 1) (sym c) ∙ m)
         ∙ image-rewritten lim s p j h f q (λ t. set t (16 + 64 * j + length xs) x) xs (xs ++ (x ∷ [])) refl (λ a z g. append-list a z (16 + 64 * j) g x xs l)
 
-    pub front-out : (p′ : Bytes) → p′ ≡ set (raised (16 + 64 * j) (x % 256) p) (12 + j) (n + 1) → PushedFront j x p p′
+    pub front-out : (p′ : Bytes) → p′ ≡ set (movedUp (16 + 64 * j) (x % 256) p) (12 + j) (n + 1) → PushedFront j x p p′
     front-out p′ o lim s f q b l =
         let xs : List ℕ = listAt j s in
         let c : n ≡ length xs = e ∙ count-is lim s p j h f q in
         let m : n + 1 ≡ length (x ∷ xs) = omega arith in
         let y : x % 256 ≡ x = omega arith in
-        o ∙ ap₂ (λ u v. set (raised (16 + 64 * j) v p) (12 + j) u) m y
-        ∙ image-rewritten lim s p j h f q (raised (16 + 64 * j) x) xs (x ∷ xs) refl (λ a z g. raise-list a z (16 + 64 * j) g x xs l)
+        o ∙ ap₂ (λ u v. set (movedUp (16 + 64 * j) v p) (12 + j) u) m y
+        ∙ image-rewritten lim s p j h f q (movedUp (16 + 64 * j) x) xs (x ∷ xs) refl (λ a z g. raise-list a z (16 + 64 * j) g x xs l)

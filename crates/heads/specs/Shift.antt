@@ -61,11 +61,11 @@ module _ (p : Bytes) (at j : ℕ) (h : at + j + 1 < length p) where
       ∙ ap₂ (λ (x y : Bytes). x ++ y) (ap (λ k. part (at + 1) j p ++ (getD p k 0 ∷ [])) (sym e) ∙ sym (part-more p (at + 1) j (omega arith)) ∙ ap (λ k. part (at + 1) k p) (sym (add-one j))) (ap (λ k. drop k p) f))
 
 -- All 64 moved, and a zero behind them.
-unfoldable pub lowered : ℕ → Bytes → Bytes
-lowered at p = take at p ++ (part (at + 1) 63 p ++ (0 ∷ drop (at + 64) p))
+unfoldable pub movedDown : ℕ → Bytes → Bytes
+movedDown at p = take at p ++ (part (at + 1) 63 p ++ (0 ∷ drop (at + 64) p))
 
-pub moved-last : (p : Bytes) (at : ℕ) → at + 64 ≤ length p → set (moved p at 63) (at + 63) 0 ≡ lowered at p
-unfolding moved lowered
+pub moved-last : (p : Bytes) (at : ℕ) → at + 64 ≤ length p → set (moved p at 63) (at + 63) 0 ≡ movedDown at p
+unfolding moved movedDown
 moved-last p at h =
     let e : suc (at + 63) ≡ at + 64 = omega arith in
     ap (λ l. set l (at + 63) 0) (sym (append-assoc (take at p) (part (at + 1) 63 p) (drop (at + 63) p)) ∙ ap (λ (l : Bytes). (take at p ++ part (at + 1) 63 p) ++ l) (drop-cons p (at + 63) 0 (omega arith)))
@@ -75,8 +75,8 @@ moved-last p at h =
 
 -- ---- a list with a slot more in front
 
-unfoldable pub raised : ℕ → ℕ → Bytes → Bytes
-raised at x p = insertAt at x (take (at + 63) p) ++ drop (at + 63 + 1) p
+unfoldable pub movedUp : ℕ → ℕ → Bytes → Bytes
+movedUp at x p = insertAt at x (take (at + 63) p) ++ drop (at + 63 + 1) p
 
 -- ---- on a list filled up with zeros, behind a and before z
 
@@ -108,19 +108,19 @@ module _ (a z : Bytes) (at : ℕ) (e : length a ≡ at) where
       less : (n : ℕ) → 64 - suc n ≡ 63 - n
       less n = omega arith
 
-  pub lower-list : (x : ℕ) (xs : List ℕ) → length xs < 64 → lowered at (a ++ (padded 64 (x ∷ xs) ++ z)) ≡ a ++ (padded 64 xs ++ z)
-  unfolding lowered part
+  pub lower-list : (x : ℕ) (xs : List ℕ) → length xs < 64 → movedDown at (a ++ (padded 64 (x ∷ xs) ++ z)) ≡ a ++ (padded 64 xs ++ z)
+  unfolding movedDown part
   lower-list x xs h =
       let m : Bytes = xs ++ zeros (length xs) in
       let s : a ++ (padded 64 (x ∷ xs) ++ z) ≡ a ++ (x ∷ (m ++ z)) = ap (λ (l : Bytes). a ++ (l ++ z)) (firm x xs) in
       let d1 : drop (at + 1) (a ++ (x ∷ (m ++ z))) ≡ m ++ z = sym (drop-drop 1 at _) ∙ ap (drop 1) (drop-at a (x ∷ (m ++ z)) at e) in
       let d64 : drop (at + 64) (a ++ (x ∷ (m ++ z))) ≡ z = sym (drop-drop 64 at _) ∙ ap (drop 64) (drop-at a (x ∷ (m ++ z)) at e) ∙ drop-at (x ∷ m) z 64 (ap suc (filled xs h)) in
-      ap (lowered at) s
+      ap (movedDown at) s
       ∙ ap₂ (λ (u v : Bytes). u ++ v) (take-at a _ at e) (ap₂ (λ (u v : Bytes). u ++ (0 ∷ v)) (ap (take 63) d1 ∙ take-at m z 63 (filled xs h)) d64)
       ∙ ap (λ (u : Bytes). a ++ u) (sym (append-snoc m 0 z) ∙ ap (λ (l : Bytes). l ++ z) (sym (loose xs h)))
 
-  pub raise-list : (x : ℕ) (xs : List ℕ) → length xs < 64 → raised at x (a ++ (padded 64 xs ++ z)) ≡ a ++ (padded 64 (x ∷ xs) ++ z)
-  unfolding raised
+  pub raise-list : (x : ℕ) (xs : List ℕ) → length xs < 64 → movedUp at x (a ++ (padded 64 xs ++ z)) ≡ a ++ (padded 64 (x ∷ xs) ++ z)
+  unfolding movedUp
   raise-list x xs h =
       let m : Bytes = xs ++ zeros (length xs) in
       let s : a ++ (padded 64 xs ++ z) ≡ (a ++ m) ++ (0 ∷ z) =
@@ -128,7 +128,7 @@ module _ (a z : Bytes) (at : ℕ) (e : length a ≡ at) where
       let n : length (a ++ m) ≡ at + 63 = length-append a m ∙ ap₂ (λ (u v : ℕ). u + v) e (filled xs h) in
       let t : take (at + 63) ((a ++ m) ++ (0 ∷ z)) ≡ a ++ m = take-at (a ++ m) (0 ∷ z) (at + 63) n in
       let d : drop (at + 63 + 1) ((a ++ m) ++ (0 ∷ z)) ≡ z = sym (drop-drop 1 (at + 63) _) ∙ ap (drop 1) (drop-at (a ++ m) (0 ∷ z) (at + 63) n) in
-      ap (raised at x) s
+      ap (movedUp at x) s
       ∙ ap₂ (λ (u v : Bytes). insertAt at x u ++ v) t d
       ∙ ap₂ (λ (u v : Bytes). (u ++ (x ∷ v)) ++ z) (take-at a m at e) (drop-at a m at e)
       ∙ append-assoc a (x ∷ m) z ∙ ap (λ (l : Bytes). a ++ (l ++ z)) (sym (firm x xs))

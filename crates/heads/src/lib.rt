@@ -1,17 +1,18 @@
-// heads: what calls write into a pool beside sheets: the lists of slots in its header, changed in place, and slots given back. List 0 has the waiting slots, list 1 the complete ones, list 2 the
-// bounded ones; list j is counted by byte 12 + j, and stands in the 64 bytes from 16 + 64 * j on.
+// heads: what calls write into a pool beside sheets: the lists of slots in its header, changed in place, and slots given back. List 0
+// has the waiting slots, list 1 the complete ones, list 2 the bounded ones; list j is counted by byte 12 + j, and stands in the 64 bytes
+// from 16 + 64 * j on. Of a list that is empty or full where it should not be, nothing is promised but that the call is safe.
 use octets::byte;
 ghost use mathlib.Core.Path.{_≡_};
 ghost use Prim.Native.Nat.{_+_, _*_, _≤_, _<_};
 ghost use lib.ListN.{length, replicate};
 ghost use Rattle.octets.specs.Patch.{patched};
-ghost use Rattle.heads.specs.Shift.{lowered, raised};
+ghost use Rattle.heads.specs.Shift.{movedDown, movedUp};
 ghost use Rattle.heads.specs.Lists.{Popped, PushedBack, PushedFront};
 
 // The list at a place loses its first slot; those behind it move down.
 fn move_down(pool: &mut [u8], at: usize)
     requires { ⌜ (at < 1000000) × (at + 64 ≤ length (now pool)) ⌝ }
-    ensures { λ _. ⌜ now (pool .exit) ≡ lowered at (now (pool .entry)) ⌝ }
+    ensures { λ _. ⌜ now (pool .exit) ≡ movedDown at (now (pool .entry)) ⌝ }
 {
     let mut j = 0;
     while j < 63 {
@@ -24,7 +25,7 @@ fn move_down(pool: &mut [u8], at: usize)
 // A slot comes before those of the list at a place, which move up.
 fn move_up(pool: &mut [u8], at: usize, slot: u8)
     requires { ⌜ (at < 1000000) × (at + 64 ≤ length (now pool)) ⌝ }
-    ensures { λ _. ⌜ now (pool .exit) ≡ raised at slot (now (pool .entry)) ⌝ }
+    ensures { λ _. ⌜ now (pool .exit) ≡ movedUp at slot (now (pool .entry)) ⌝ }
 {
     let mut i = at + 63;
     while at < i {

@@ -1,7 +1,6 @@
 // lines: the listing's lines, written into a buffer from a place on; each answers the place behind what it wrote. What a line
 // says is defined in specs/Text.antt. Entries of a sheet are read in place, eight bytes each (docs/FORMAT.md).
 use words::byte;
-ghost use mathlib.Core.Path.{_≡_};
 ghost use mathlib.Core.List.{_∷_, []};
 ghost use Prim.Native.Nat.{_+_, _*_, _≤_, _<_};
 ghost use lib.ListN.{length, take, drop};

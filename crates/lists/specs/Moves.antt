@@ -13,7 +13,7 @@ use Rattle.rules.specs.Image.{word, long, poolMark, poolHead, poolIn, poolBytes
 use Rattle.rules.specs.Step.{pushed, schedule}
 use Rattle.images.specs.Storable.{Octet, SmallLimits, StorableState, ByteState}
 use Rattle.images.specs.Pools.{pool-back}
-use Rattle.heads.specs.Lists.{Few, relisted, Popped, PushedBack, PushedFront, first-is}
+use Rattle.heads.specs.Lists.{Few, relisted, Popped, PushedBack, PushedFront, first-slot}
 use Rattle.lists.specs.Header.{unnamed, used-in, nextIn, next-in}
 
 -- The bytes are the image of a state that an image can hold.
@@ -43,14 +43,14 @@ abbrev pub cuts : ℕ → Bool → List ℕ
 cuts i true = i ∷ []
 cuts i false = []
 
-abbrev Opened : ℕ → Bool → ℕ → State → State
-Opened i cut next s = changed s next (schedule (schedulerOf (s .scheduler)) (opens i cut) (s .waiting)) (s .complete) (s .bounded ++ cuts i cut) (s .slots)
+abbrev Grown : ℕ → Bool → ℕ → State → State
+Grown i cut next s = changed s next (schedule (schedulerOf (s .scheduler)) (opens i cut) (s .waiting)) (s .complete) (s .bounded ++ cuts i cut) (s .slots)
 
 abbrev pub Enlisted : ℕ → Bool → Bytes → Bytes → Type 0
-Enlisted i cut p p′ = (lim : Limits) (s : State) → Imaged lim s p → Octet i → Room s → p′ ≡ poolBytes lim (Opened i cut (s .next) s)
+Enlisted i cut p p′ = (lim : Limits) (s : State) → Imaged lim s p → Octet i → Room s → p′ ≡ poolBytes lim (Grown i cut (s .next) s)
 
 abbrev pub Joined : ℕ → Bool → Bytes → Bytes → Type 0
-Joined i cut p p′ = (lim : Limits) (s : State) → Imaged lim s p → Octet i → Room s → p′ ≡ poolBytes lim (Opened i cut (s .next + 1) s)
+Joined i cut p p′ = (lim : Limits) (s : State) → Imaged lim s p → Octet i → Room s → p′ ≡ poolBytes lim (Grown i cut (s .next + 1) s)
 
 abbrev pub CountedOn : Bytes → Bytes → Type 0
 CountedOn p p′ = (lim : Limits) (s : State) → s .next < 65536 * 65536 → p ≡ poolBytes lim s
@@ -82,14 +82,14 @@ shows-free lim s p sh = ap (λ (us : List ℕ). keep (λ i. not (mem i us)) (fro
 -- ---- the next number
 
 -- Four bytes of the front.
-abbrev numbered : ℕ → Bytes → Bytes
-numbered n p = set (set (set (set p 8 (n % 65536 % 256)) 9 (n % 65536 / 256 % 256)) 10 (n / 65536 % 256)) 11 (n / 65536 / 256 % 256)
+abbrev withNext : ℕ → Bytes → Bytes
+withNext n p = set (set (set (set p 8 (n % 65536 % 256)) 9 (n % 65536 / 256 % 256)) 10 (n / 65536 % 256)) 11 (n / 65536 / 256 % 256)
 
-pub counts-on : (p : Bytes) (n : ℕ) → n ≡ nextIn p → (p′ : Bytes) → p′ ≡ numbered (n + 1) p → CountedOn p p′
+pub counts-on : (p : Bytes) (n : ℕ) → n ≡ nextIn p → (p′ : Bytes) → p′ ≡ withNext (n + 1) p → CountedOn p p′
 unfolding poolBytes poolHead poolMark long word changed nextIn num
 counts-on p n e p′ o lim s h q =
     let m : n ≡ s .next = e ∙ ap nextIn q ∙ omega arith in
-    o ∙ ap₂ (λ (k : ℕ) (l : Bytes). numbered (k + 1) l) m q
+    o ∙ ap₂ (λ (k : ℕ) (l : Bytes). withNext (k + 1) l) m q
 
 -- ---- the ways out
 
@@ -97,7 +97,7 @@ pub finished : (p p₁ p₂ : Bytes) (i : ℕ) → i ≡ getD p 16 0 → Popped 
 unfolding changed
 finished p p₁ p₂ i is pop push lim s sh i′ ws e l =
     let f = few lim s p sh in
-    let o : i ≡ i′ = is ∙ first-is lim s p 0 (omega arith) f (sh .is) i′ ws e in
+    let o : i ≡ i′ = is ∙ first-slot lim s p 0 (omega arith) f (sh .is) i′ ws e in
     let w : length ws ≤ 64 = omega (arith, f .waiting, ap length e) in
     let b : Octet i′ = subst (All Octet) e (sh .bytes .waiting) .0 in
     push lim (relisted 0 s ws) (record { waiting = w; complete = f .complete; bounded = f .bounded }) (pop lim s f (sh .is) i′ ws e) (omega arith) l
@@ -140,4 +140,4 @@ module _ (i : ℕ) (p p′ : Bytes) where
 
 pub joined : (i : ℕ) (cut : Bool) (p p₁ p₂ : Bytes) → Enlisted i cut p p₁ → CountedOn p₁ p₂ → Joined i cut p p₂
 unfolding changed
-joined i cut p p₁ p₂ en count lim s sh o r = count lim (Opened i cut (s .next) s) (sh .storable .next) (en lim s sh o r)
+joined i cut p p₁ p₂ en count lim s sh o r = count lim (Grown i cut (s .next) s) (sh .storable .next) (en lim s sh o r)

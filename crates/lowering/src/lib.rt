@@ -3,10 +3,8 @@
 ghost use mathlib.Core.Path.{_≡_};
 ghost use Prim.Native.Nat.{_+_, _≤_, _<_, max};
 ghost use lib.ListN.{length, getD};
-ghost use Rattle.base.specs.Lists.{All};
 ghost use Rattle.rules.specs.Image.{part};
-ghost use Rattle.images.specs.Storable.{Octet};
-ghost use Rattle.lowering.specs.Lower.{argDepth, deepest, overIn, lowest};
+ghost use Rattle.lowering.specs.Lower.{argDepth, deepest, lowest};
 ghost use Rattle.lowering.specs.Rest.{LoweredAt, LoweredBy, LoweredTo};
 
 // The depth of an element.
@@ -42,17 +40,6 @@ fn deepest(w: &[u64], d: usize, n: usize, x: u64) -> u64
     let front = larger(argument_depth(w, d, n, x, 0), argument_depth(w, d, n, x, 1));
     let back = larger(argument_depth(w, d, n, x, 2), argument_depth(w, d, n, x, 3));
     larger(front, back)
-}
-
-// What the entry gives its value: 0 without arguments, else one more than the greatest depth of an argument.
-pub fn depth_over(w: &[u64], d: usize, n: usize, x: u64) -> u64
-    requires { ⌜ (d + n ≤ length (now w)) × All Octet (part d n (now w)) ⌝ }
-    ensures { λ r. ⌜ (r ≡ overIn (part d n (now (w .entry))) x) × (r ≤ 256) ⌝ }
-{
-    if packing::count(x) == 0 {
-        return 0;
-    }
-    deepest(w, d, n, x) + 1
 }
 
 // The depth of the entry's value, no more than what the entry gives it.

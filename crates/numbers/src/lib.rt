@@ -4,7 +4,6 @@ use words::byte;
 use words::num16;
 use words::rest;
 ghost use mathlib.Core.Path.{_≡_};
-ghost use Prim.Native.Nat.{_≤_};
 ghost use Rattle.rules.specs.Reading.{many, number, ranged, declared, markByte, version};
 ghost use Rattle.numbers.specs.Answers.{checked, value, ValueIn};
 

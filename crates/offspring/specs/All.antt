@@ -81,8 +81,6 @@ PlacedAll book at n v bd lim place env base slots p p′ = (b : Book) → Ground
 
 -- ---- one child: what the state has then
 
-
-
 -- Children in free slots are new.
 new-ones : (lim : Limits) (b : Book) (s : State) (place : ℕ) (ks : List Child) → place < placesOf b s → length ks ≤ length (free s) → s .next + length ks ≤ numbers
     → All (λ (k : Child). T (soundModel lim (b .names) (k .model))) ks → New lim b s (placed (free s) place (s .next) ks)
@@ -175,8 +173,6 @@ module _ (lim : Limits) (b : Book) (g : Ground lim b) (slots place : ℕ) (few :
       after-left = let l = o .left in omega arith
 
 -- ---- none left
-
-
 
 placed-none : (s : State) (place : ℕ) → withPlaced s (placed (free s) place (s .next) []) .state ≡ s
 unfolding placed withPlaced done changed stored openSlots cutSlots

@@ -22,7 +22,7 @@ use Rattle.images.specs.Sheets.{blank-zero}
 use Rattle.numbers.specs.Answers.{checked-ends, checked-refused}
 use Rattle.poolcheck.specs.Books.{right-slots}
 use Rattle.sheetparts.specs.Ways.{on}
-use Rattle.openings.specs.Order.{firstRefusal, first-refuses, first-none}
+use Rattle.openings.specs.Order.{firstRefusal, first-refuses, none-refused}
 
 -- ---- lengths
 
@@ -52,12 +52,12 @@ right-true len e = subst T e tt
 -- ---- behind the book's check
 
 -- 12: a scheduler and a strategy that document 01 knows.
-abbrev pub knownSettings : ℕ → ℕ → Bool
-knownSettings scheduler strategy = ltb scheduler schedulers && ltb strategy strategies
+abbrev pub settingsKnown : ℕ → ℕ → Bool
+settingsKnown scheduler strategy = ltb scheduler schedulers && ltb strategy strategies
 
 unfoldable pub openRest : Bytes → ℕ → ℕ → Outcome
 openRest pool scheduler strategy =
-    if (rightLength (length pool)) (λ _. if (knownSettings scheduler strategy)
+    if (rightLength (length pool)) (λ _. if (settingsKnown scheduler strategy)
     (λ _. outcome 0 (poolBytes limits (opened scheduler strategy (slotsIn limits (length pool))))) (λ _. outcome 12 pool)) (λ _. outcome 11 pool)
 
 pub record OpenRest (pool : Bytes) (scheduler strategy answer : ℕ) (after : Bytes) : Type 0 where
@@ -65,15 +65,15 @@ pub record OpenRest (pool : Bytes) (scheduler strategy answer : ℕ) (after : By
   pub leaves : after ≡ openRest pool scheduler strategy .pool
 
 module _ (scheduler strategy : ℕ) where
-  pub scheduler-unknown : 2 ≤ scheduler → false ≡ knownSettings scheduler strategy
+  pub scheduler-unknown : 2 ≤ scheduler → false ≡ settingsKnown scheduler strategy
   unfolding schedulers
   scheduler-unknown h = sym (ap (λ b. b && ltb strategy strategies) (le-ltb scheduler 2 h))
 
-  pub strategy-decides : scheduler < 2 → ltb strategy 2 ≡ knownSettings scheduler strategy
+  pub strategy-decides : scheduler < 2 → ltb strategy 2 ≡ settingsKnown scheduler strategy
   unfolding schedulers strategies
   strategy-decides h = sym (ap (λ b. b && ltb strategy 2) (lt-ltb scheduler 2 h))
 
-  pub settings-within : true ≡ knownSettings scheduler strategy → (scheduler < 2) × (strategy < 2)
+  pub settings-within : true ≡ settingsKnown scheduler strategy → (scheduler < 2) × (strategy < 2)
   unfolding schedulers strategies
   settings-within e = go (ltb scheduler 2) (ltb strategy 2) refl refl (sym e)
     where
@@ -82,22 +82,22 @@ module _ (scheduler strategy : ℕ) where
       go true false p q e = absurd (let z : _≡_ {A = ℕ} 0 1 = cc in omega arith)
       go false b p q e = absurd (let z : _≡_ {A = ℕ} 0 1 = cc in omega arith)
 
-module _ (pool : Bytes) (scheduler strategy n : ℕ) (e : n ≡ firstRefusal (rightLength (length pool)) (knownSettings scheduler strategy)) where
+module _ (pool : Bytes) (scheduler strategy n : ℕ) (e : n ≡ firstRefusal (rightLength (length pool)) (settingsKnown scheduler strategy)) where
   pub open-unfit : (n ≡ 0 → ⊥) → OpenRest pool scheduler strategy n pool
   unfolding openRest outcome
   open-unfit z =
       let o : openRest pool scheduler strategy ≡ outcome n pool =
-      first-refuses (rightLength (length pool)) (knownSettings scheduler strategy) (λ k. outcome k pool) _ (λ q. z (e ∙ q)) ∙ ap (λ k. outcome k pool) (sym e) in
+      first-refuses (rightLength (length pool)) (settingsKnown scheduler strategy) (λ k. outcome k pool) _ (λ q. z (e ∙ q)) ∙ ap (λ k. outcome k pool) (sym e) in
       record { answers = ap (λ (x : Outcome). x .answer) (sym o); leaves = ap (λ (x : Outcome). x .pool) (sym o) }
 
-  pub open-fit : n ≡ 0 → (true ≡ rightLength (length pool)) × (true ≡ knownSettings scheduler strategy)
-  open-fit z = first-none (rightLength (length pool)) (knownSettings scheduler strategy) (sym e ∙ z)
+  pub open-fit : n ≡ 0 → (true ≡ rightLength (length pool)) × (true ≡ settingsKnown scheduler strategy)
+  open-fit z = none-refused (rightLength (length pool)) (settingsKnown scheduler strategy) (sym e ∙ z)
 
   pub opens : n ≡ 0 → (after : Bytes) → after ≡ poolBytes limits (opened scheduler strategy (slotsIn limits (length pool))) → OpenRest pool scheduler strategy 0 after
   unfolding openRest outcome
   opens z after q =
       let f = open-fit z in
-      let o = on (rightLength (length pool)) _ _ (sym (f .0)) ∙ on (knownSettings scheduler strategy) _ _ (sym (f .1)) in
+      let o = on (rightLength (length pool)) _ _ (sym (f .0)) ∙ on (settingsKnown scheduler strategy) _ _ (sym (f .1)) in
       record { answers = ap (λ (x : Outcome). x .answer) (sym o); leaves = q ∙ ap (λ (x : Outcome). x .pool) (sym o) }
 
 -- ---- the image

@@ -34,8 +34,8 @@ first-refuses true false f g n = refl
 first-refuses false known f g n = refl
 
 -- Where it is 0, both are as they should be.
-pub first-none : (right known : Bool) → firstRefusal right known ≡ 0 → (true ≡ right) × (true ≡ known)
+pub none-refused : (right known : Bool) → firstRefusal right known ≡ 0 → (true ≡ right) × (true ≡ known)
 unfolding firstRefusal if
-first-none true true e = (refl, refl)
-first-none true false e = absurd (omega arith)
-first-none false known e = absurd (omega arith)
+none-refused true true e = (refl, refl)
+none-refused true false e = absurd (omega arith)
+none-refused false known e = absurd (omega arith)

@@ -12,7 +12,7 @@ ghost use Rattle.rules.specs.Pool.{opened};
 ghost use Rattle.rules.specs.Image.{poolBytes, slotsIn};
 ghost use Rattle.rules.specs.Calls.{rightLength, OpenPromise};
 ghost use Rattle.openings.specs.Order.{firstRefusal};
-ghost use Rattle.openings.specs.Open.{knownSettings, OpenRest};
+ghost use Rattle.openings.specs.Open.{settingsKnown, OpenRest};
 
 // 11: the length of a head and 1 to 64 slots.
 pub fn right_length(len: usize) -> bool
@@ -62,7 +62,7 @@ pub fn first_refusal(right: bool, known: bool) -> u32
 
 // 12: a scheduler and a strategy that are known.
 fn known_settings(scheduler: u32, strategy: u32) -> bool
-    ensures { λ r. ⌜ r ≡ knownSettings scheduler strategy ⌝ }
+    ensures { λ r. ⌜ r ≡ settingsKnown scheduler strategy ⌝ }
 {
     if scheduler >= 2 {
         return false;

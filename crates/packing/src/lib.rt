@@ -1,31 +1,9 @@
 // Keys and facts as one number of eight digits to base 256, highest first: kind, symbol, number of arguments, four
 // arguments, value. A fact has kind 0 and value 0. The number / 256 is the key.
 ghost use mathlib.Core.Path.{_≡_};
-ghost use Prim.Native.Nat.{_+_, _*_, _<_};
+ghost use Prim.Native.Nat.{_<_};
 ghost use Rattle.rules.specs.Merge.{rename};
-ghost use Rattle.packing.specs.Replace.{eight, kindOf, symbolOf, countOf, argOf, valueOf, replaced};
-
-// The number of eight digits.
-pub fn pack(kind: u64, symbol: u64, n: u64, a0: u64, a1: u64, a2: u64, a3: u64, value: u64) -> u64
-    requires { ⌜ (kind < 256) × (symbol < 256) × (n < 256) × (a0 < 256) × (a1 < 256) × (a2 < 256) × (a3 < 256) × (value < 256) ⌝ }
-    ensures { λ r. ⌜ r ≡ eight kind symbol n a0 a1 a2 a3 value ⌝ }
-{
-    let top = (kind * 256 + symbol) * 256 + n;
-    let mid = ((top * 256 + a0) * 256 + a1) * 256 + a2;
-    (mid * 256 + a3) * 256 + value
-}
-
-pub fn kind(x: u64) -> u64
-    ensures { λ r. ⌜ (r ≡ kindOf x) × (r < 256) ⌝ }
-{
-    x / 72057594037927936
-}
-
-pub fn symbol(x: u64) -> u64
-    ensures { λ r. ⌜ (r ≡ symbolOf x) × (r < 256) ⌝ }
-{
-    x / 281474976710656 % 256
-}
+ghost use Rattle.packing.specs.Replace.{countOf, argOf, valueOf, replaced};
 
 pub fn count(x: u64) -> u64
     ensures { λ r. ⌜ (r ≡ countOf x) × (r < 256) ⌝ }

@@ -22,7 +22,7 @@ use Rattle.demands.specs.Kept.{fits-roomy, sound-tidy, sound-image}
 use Rattle.texts.specs.Heads.{accepted}
 use Rattle.sheetparts.specs.Ways.{on, off}
 use Rattle.poolcheck.specs.Books.{PoolSound}
-use Rattle.openings.specs.Order.{firstRefusal, first-refuses, first-none}
+use Rattle.openings.specs.Order.{firstRefusal, first-refuses, none-refused}
 use Rattle.stepping.specs.Standing.{L, Standing, stepOf, Went}
 
 pub record ReadAs (text : Bytes) : Type 0 where
@@ -100,7 +100,7 @@ module _ (text p : Bytes) (bound number : ℕ) where
 
       module _ (z : n ≡ 0) where
         fit : (true ≡ rightLength (length p)) × (true ≡ settings)
-        fit = first-none (rightLength (length p)) settings (sym e ∙ z)
+        fit = none-refused (rightLength (length p)) settings (sym e ∙ z)
 
         pub right : T (rightLength (length p))
         right = subst T (fit .0) tt

@@ -12,7 +12,7 @@ use words::byte;
 use words::num16;
 ghost use mathlib.Core.Path.{_≡_};
 ghost use Prim.Native.Nat.{_+_, _*_, _≤_, _<_};
-ghost use lib.ListN.{length, getD};
+ghost use lib.ListN.{length};
 ghost use Rattle.rules.specs.Reading.{num};
 ghost use Rattle.rules.specs.Sound.{hasArity, declaredAs};
 ghost use Rattle.texts.specs.Names.{namesIn};

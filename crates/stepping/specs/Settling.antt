@@ -46,8 +46,6 @@ abbrev pub Settled : Bytes → ℕ → ℕ → ℕ → ℕ → Bound → ℕ →
 Settled text i at n v bd place env base p p′ = (g : Parting text i at n v bd place env base p)
     → p′ ≡ poolBytes L (withPlaced (withoutBase (g .state) i (g .rest)) (placed (free (withoutBase (g .state) i (g .rest))) place (g .state .next) (kidsOf bd L v (take v env) (g .model) (g .head))) .state)
 
-
-
 pub settled : (text : Bytes) (i at n v : ℕ) (bd : Bound) (place : ℕ) (env base : List ℕ) (p p₁ p₂ : Bytes) → Freed L i p p₁
     → PlacedAll text at n v bd L place env base ((length p - 208) / 2128) p₁ p₂ → Settled text i at n v bd place env base p p₂
 unfolding headSize sheetSize withoutBase changed

@@ -19,7 +19,7 @@ use slots::get_sheet;
 use words::num16;
 ghost use mathlib.Core.Path.{_≡_};
 ghost use Prim.Native.Nat.{_+_, _*_, _≤_, _<_};
-ghost use lib.ListN.{length, take};
+ghost use lib.ListN.{length};
 ghost use Rattle.rules.specs.Calls.{boundOf};
 ghost use Rattle.sheets.specs.Form.{formSize};
 ghost use Rattle.enter.specs.Grow.{Sturdy};

@@ -20,7 +20,7 @@ use Rattle.sheetparts.specs.Tests.{byteAt}
 use Rattle.sheetparts.specs.Ways.{on, off}
 use Rattle.poolcheck.specs.Pools.{sound-frame}
 use Rattle.poolcheck.specs.Books.{right-slots, PoolSound}
-use Rattle.openings.specs.Order.{firstRefusal, first-refuses, first-none}
+use Rattle.openings.specs.Order.{firstRefusal, first-refuses, none-refused}
 use Rattle.takings.specs.Take.{takeFirst, takeGoing, takeRest, Took, took-by, took-is, Ready}
 
 -- A text that is read as a book.
@@ -43,7 +43,7 @@ module _ (text pool : Bytes) (list : ℕ) (out : Bytes) (n : ℕ) (e : n ≡ fir
 
   module _ (z : n ≡ 0) where
     fit : (true ≡ rightLength (length pool)) × (true ≡ ltb list 2)
-    fit = first-none (rightLength (length pool)) (ltb list 2) (sym e ∙ z)
+    fit = none-refused (rightLength (length pool)) (ltb list 2) (sym e ∙ z)
 
     pub known-list : list < 2
     known-list = ltb-true list 2 (sym (fit .1))

@@ -8,19 +8,15 @@ use Rattle.adopting.proofs.free_base.Lts as lts
 use Rattle.heads.proofs.clear_slot.Reads as clear-slot-reads
 use Rattle.lists.proofs.forget.Reads as forget-reads
 
--- src/lib.rt:31:5
 clear-slot-requires : tie.Need-clear-slot-requires
 clear-slot-requires c κs = search needs
 
--- src/lib.rt:32:5
 forget-requires : tie.Need-forget-requires
 forget-requires c κs = search needs
 
--- src/lib.rt:27:1
 same-length : tie.Need-same-length
 same-length c = search needs
 
--- src/lib.rt:27:1
 returns : tie.Need-returns
 returns c =
     let s = c .before .before .before .before .before .before .before .before .before in

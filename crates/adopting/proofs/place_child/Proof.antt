@@ -10,38 +10,30 @@ use Rattle.lists.proofs.join.Reads as join-reads
 use Rattle.lists.proofs.next_number.Reads as next-number-reads
 use Rattle.slots.proofs.put_sheet.Reads as put-sheet-reads
 
--- src/lib.rt:40:12
 next-number-requires : tie.Need-next-number-requires
 next-number-requires c κs = search needs
 
--- src/lib.rt:40:5
 slice-write-w : tie.Need-slice-write-w
 slice-write-w c = search needs
 
--- src/lib.rt:41:5
 slice-write-w-2 : tie.Need-slice-write-w-2
 slice-write-w-2 c = simp length-set (search needs)
 
--- src/lib.rt:42:5
 put-sheet-requires : tie.Need-put-sheet-requires
 put-sheet-requires c κs =
     let s = c .before .before .before .before .before .before in
     let a = s .args in
     (numbered-formed (limitsOf (a .le) (a .lk) (a .lf)) (a .w .now) _ (a .place) (s .pre .0), s .pre .1)
 
--- src/lib.rt:43:5
 join-requires : tie.Need-join-requires
 join-requires c κs = search needs
 
--- src/lib.rt:36:1
 same-length : tie.Need-same-length
 same-length c = search needs
 
--- src/lib.rt:36:1
 same-length-2 : tie.Need-same-length-2
 same-length-2 c = search needs
 
--- src/lib.rt:36:1
 returns : tie.Need-returns
 returns c =
     let s = c .before .before .before .before .before .before .before .before .before .before .before .before .before in

@@ -14,79 +14,60 @@ use Rattle.evalforms.proofs.evaluate_form.Lts as lts
 use Rattle.domains.proofs.list_domain.Reads as list-domain-reads
 use Rattle.evaluate.proofs.evaluate.Reads as evaluate-reads
 
--- src/lib.rt:24:14
 shared-slice-read-nk : tie.Need-shared-slice-read-nk
 shared-slice-read-nk c = search needs
 
--- src/lib.rt:25:14
 shared-slice-read-nf : tie.Need-shared-slice-read-nf
 shared-slice-read-nf c = search needs
 
--- src/lib.rt:26:14
 add-ke : tie.Need-add-ke
 add-ke c = search needs
 
--- src/lib.rt:27:14
 add-fa : tie.Need-add-fa
 add-fa c = search needs
 
--- src/lib.rt:27:14
 add-fa-2 : tie.Need-add-fa-2
 add-fa-2 c = search needs
 
--- src/lib.rt:28:14
 add-fe : tie.Need-add-fe
 add-fe c = search needs
 
--- src/lib.rt:29:26
 sub-list-domain : tie.Need-sub-list-domain
 sub-list-domain c = search needs
 
--- src/lib.rt:29:26
 part-list-domain-start : tie.Need-part-list-domain-start
 part-list-domain-start c = search needs
 
--- src/lib.rt:29:26
 part-list-domain-end : tie.Need-part-list-domain-end
 part-list-domain-end c = search needs
 
--- src/lib.rt:29:9
 list-domain-requires : tie.Need-list-domain-requires
 list-domain-requires c κs = search needs
 
--- src/lib.rt:30:40
 shared-slice-read-evaluate : tie.Need-shared-slice-read-evaluate
 shared-slice-read-evaluate c = search needs
 
--- src/lib.rt:30:54
 sub-evaluate : tie.Need-sub-evaluate
 sub-evaluate c = search needs
 
--- src/lib.rt:30:54
 part-evaluate-start : tie.Need-part-evaluate-start
 part-evaluate-start c = search needs
 
--- src/lib.rt:30:54
 part-evaluate-end : tie.Need-part-evaluate-end
 part-evaluate-end c = search needs
 
--- src/lib.rt:30:72
 mul-evaluate : tie.Need-mul-evaluate
 mul-evaluate c = search needs
 
--- src/lib.rt:30:72
 sub-evaluate-2 : tie.Need-sub-evaluate-2
 sub-evaluate-2 c = search needs
 
--- src/lib.rt:30:72
 part-evaluate-start-2 : tie.Need-part-evaluate-start-2
 part-evaluate-start-2 c = search needs
 
--- src/lib.rt:30:72
 part-evaluate-end-2 : tie.Need-part-evaluate-end-2
 part-evaluate-end-2 c = search needs
 
--- src/lib.rt:30:5
 evaluate-requires : tie.Need-evaluate-requires
 evaluate-requires c κs =
     let l = c .before .before .before .before .before .before .before .list-domain in
@@ -105,15 +86,12 @@ evaluate-requires c κs =
       ),
     )
 
--- src/lib.rt:11:1
 same-length : tie.Need-same-length
 same-length c = search needs
 
--- src/lib.rt:11:1
 same-length-2 : tie.Need-same-length-2
 same-length-2 c = search needs
 
--- src/lib.rt:11:1
 returns : tie.Need-returns
 returns c =
     let l = c .before .before .before .before .before .before .before .before .before .before .list-domain in

@@ -21,22 +21,18 @@ Inv-loop book at i n env₀ keys nk facts nf dom nd p₀ j₀ env p j =
 abbrev μ-loop : tie.MeasureT-loop
 μ-loop book at i n env₀ keys nk facts nf dom nd p₀ j₀ env p j = n - j
 
--- src/lib.rt:50:5
 loop-holds : tie.Need-loop-holds Inv-loop μ-loop
 loop-holds c =
     let s = c .before .before .before .before .before in
     let a = s .args in
     (omega arith, (s .pre .0, (refl, sequents-start (a .book .now) (a .at) (a .i) (a .n) (take (a .nk) (a .keys .now)) (take (a .nf) (a .facts .now)) (take (a .nd) (a .dom .now)))))
 
--- src/lib.rt:51:13
 sequent-at-requires : tie.Need-sequent-at-requires Inv-loop μ-loop
 sequent-at-requires c κs = search needs
 
--- src/lib.rt:52:17
 add-e : tie.Need-add-e Inv-loop μ-loop
 add-e c = omega (arith, c .sequent-at .ensures .within)
 
--- src/lib.rt:53:12
 first-choice-requires : tie.Need-first-choice-requires Inv-loop μ-loop
 first-choice-requires c κs =
     let l = c .before .before .before in
@@ -44,15 +40,12 @@ first-choice-requires c κs =
     let i = l .loop .inv .1 in
     (omega (arith, c .before .sequent-at .ensures .within, s .pre .1 .0), (omega (arith, i .1 .0, s .pre .1 .1 .1 .0), s .pre .1 .1 .1 .1))
 
--- src/lib.rt:54:30
 add-t21 : tie.Need-add-t21 Inv-loop μ-loop
 add-t21 c = search needs
 
--- src/lib.rt:54:13
 same-length : tie.Need-same-length Inv-loop μ-loop
 same-length c = search needs
 
--- src/lib.rt:54:13
 returns : tie.Need-returns Inv-loop μ-loop
 returns c =
     let l = c .before .before .before .before .before .before .before in
@@ -63,15 +56,12 @@ returns c =
     let g = c .before .before .before .first-choice in
     sequents-found (a .book .now) (a .at) (a .i) (a .n) (take (a .nk) (a .keys .now)) (take (a .nf) (a .facts .now)) (take (a .nd) (a .dom .now)) (l .loop .j) (l .loop .p) (i .1 .1) _ (omega arith) (h .skips) (g .last .1 .1 .0) (subst (λ x. FirstChoice (a .book .now) x (take (a .nk) (a .keys .now)) (take (a .nf) (a .facts .now)) (take (a .nd) (a .dom .now)) true (g .last .1 .1 .0)) (h .is) (rw (c .if1 .taken) at (g .ensures)))
 
--- src/lib.rt:57:9
 add-j : tie.Need-add-j Inv-loop μ-loop
 add-j c = search needs
 
--- src/lib.rt:50:5
 loop-less : tie.Need-loop-less Inv-loop μ-loop
 loop-less c = search needs
 
--- src/lib.rt:50:5
 loop-again : tie.Need-loop-again Inv-loop μ-loop
 loop-again c =
     let l = c .before .before .before .before .before .before .before in
@@ -82,11 +72,9 @@ loop-again c =
     let g = c .before .before .before .first-choice in
     (omega arith, (h .within, (g .kept .1 .1 .0 ∙ i .1 .0, sequents-next (a .book .now) (a .at) (a .i) (a .n) (take (a .nk) (a .keys .now)) (take (a .nf) (a .facts .now)) (take (a .nd) (a .dom .now)) (l .loop .j) (l .loop .p) (i .1 .1) _ (omega arith) (h .skips) (g .last .1 .1 .0) (subst (λ x. FirstChoice (a .book .now) x (take (a .nk) (a .keys .now)) (take (a .nf) (a .facts .now)) (take (a .nd) (a .dom .now)) false (g .last .1 .1 .0)) (h .is) (rw (c .if1 .left) at (g .ensures))))))
 
--- src/lib.rt:32:1
 same-length-2 : tie.Need-same-length-2 Inv-loop μ-loop
 same-length-2 c = search needs
 
--- src/lib.rt:32:1
 returns-2 : tie.Need-returns-2 Inv-loop μ-loop
 returns-2 c =
     let l = c .before in

@@ -7,23 +7,18 @@ use Rattle.evaluate.proofs.sequent_at.Reads as reads
 use Rattle.evaluate.proofs.sequent_at.Lts as lts
 use Rattle.skips.proofs.skip_sequent.Reads as skip-sequent-reads
 
--- src/lib.rt:27:9
 skip-sequent-requires : tie.Need-skip-sequent-requires
 skip-sequent-requires c κs = search needs
 
--- src/lib.rt:28:5
 sub-result : tie.Need-sub-result
 sub-result c = search needs
 
--- src/lib.rt:28:5
 part-result-start : tie.Need-part-result-start
 part-result-start c = search needs
 
--- src/lib.rt:28:5
 part-result-end : tie.Need-part-result-end
 part-result-end c = search needs
 
--- src/lib.rt:23:1
 returns : tie.Need-returns
 unfolding part
 returns c =

@@ -11,59 +11,45 @@ use Rattle.heads.proofs.clear_slot.Reads as reads
 use Rattle.heads.proofs.clear_slot.Lts as lts
 use Rattle.heads.proofs.clear.Reads as clear-reads
 
--- src/lib.rt:20:21
 mul-size : tie.Need-mul-size
 mul-size c = search needs
 
--- src/lib.rt:20:16
 add-size : tie.Need-add-size
 add-size c = search needs
 
--- src/lib.rt:20:30
 mul-size-2 : tie.Need-mul-size-2
 mul-size-2 c = search needs
 
--- src/lib.rt:20:16
 add-size-2 : tie.Need-add-size-2
 add-size-2 c = search needs
 
--- src/lib.rt:20:16
 add-size-3 : tie.Need-add-size-3
 add-size-3 c = search needs
 
--- src/lib.rt:21:19
 mul-a : tie.Need-mul-a
 mul-a c = search needs
 
--- src/lib.rt:21:13
 add-a : tie.Need-add-a
 add-a c = search needs
 
--- src/lib.rt:22:13
 add-e : tie.Need-add-e
 add-e c = search needs
 
--- src/lib.rt:23:11
 sub-clear : tie.Need-sub-clear
 sub-clear c = search needs
 
--- src/lib.rt:23:11
 part-clear-start : tie.Need-part-clear-start
 part-clear-start c = search needs
 
--- src/lib.rt:23:11
 part-clear-end : tie.Need-part-clear-end
 part-clear-end c = search needs
 
--- src/lib.rt:23:5
 clear-requires : tie.Need-clear-requires
 clear-requires c κs = search needs
 
--- src/lib.rt:16:1
 same-length : tie.Need-same-length
 same-length c = search needs
 
--- src/lib.rt:16:1
 returns : tie.Need-returns
 returns c =
     let f = c .before .before in

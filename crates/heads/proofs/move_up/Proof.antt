@@ -5,7 +5,7 @@ use native.Mathlib.Omega.{arith}
 use borrow.Author.Needs.{needs}
 use lib.ListN.{length, length-set}
 use Rattle.tables.specs.Shift.{opened, opened-none, opened-more, opened-set}
-use Rattle.heads.specs.Shift.{raised}
+use Rattle.heads.specs.Shift.{movedUp}
 use Rattle.heads.proofs.move_up.Statement.{statement}
 use Rattle.heads.proofs.move_up.Tie as tie
 use Rattle.heads.proofs.move_up.Reads as reads
@@ -17,35 +17,27 @@ Inv-loop pool₀ at slot i₀ pool i = (at ≤ i) × ((i ≤ at + 63) × ((lengt
 abbrev μ-loop : tie.MeasureT-loop
 μ-loop pool₀ at slot i₀ pool i = i
 
--- src/lib.rt:28:17
 add-i : tie.Need-add-i Inv-loop μ-loop
 add-i c = search needs
 
--- src/lib.rt:29:5
 loop-holds : tie.Need-loop-holds Inv-loop μ-loop
 loop-holds c = (omega arith, (omega arith, (refl, sym (opened-none _ _ (omega arith)))))
 
--- src/lib.rt:30:24
 sub-pool : tie.Need-sub-pool Inv-loop μ-loop
 sub-pool c = search needs
 
--- src/lib.rt:30:19
 slice-read-pool : tie.Need-slice-read-pool Inv-loop μ-loop
 slice-read-pool c = search needs
 
--- src/lib.rt:30:9
 slice-write-pool : tie.Need-slice-write-pool Inv-loop μ-loop
 slice-write-pool c = search needs
 
--- src/lib.rt:31:9
 sub-i : tie.Need-sub-i Inv-loop μ-loop
 sub-i c = search needs
 
--- src/lib.rt:29:5
 loop-less : tie.Need-loop-less Inv-loop μ-loop
 loop-less c = search needs
 
--- src/lib.rt:29:5
 loop-again : tie.Need-loop-again Inv-loop μ-loop
 loop-again c =
     let l = c .before .before in
@@ -53,17 +45,14 @@ loop-again c =
     let e = l .loop .inv .1 .1 .1 in
     (omega arith, (omega arith, (simp length-set (l .loop .inv .1 .1 .0), rw e (opened-more (a .pool .now) (a .at + 63) (omega arith) (l .loop .i) (omega arith) (omega arith)))))
 
--- src/lib.rt:33:5
 slice-write-pool-2 : tie.Need-slice-write-pool-2 Inv-loop μ-loop
 slice-write-pool-2 c = omega arith
 
--- src/lib.rt:24:1
 same-length : tie.Need-same-length Inv-loop μ-loop
 same-length c = simp length-set (c .before .loop .inv .1 .1 .0)
 
--- src/lib.rt:24:1
 returns : tie.Need-returns Inv-loop μ-loop
-unfolding raised
+unfolding movedUp
 returns c =
     let l = c .before in
     let a = l .before .args in

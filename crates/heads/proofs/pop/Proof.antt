@@ -11,57 +11,44 @@ use Rattle.heads.proofs.pop.Lts as lts
 use Rattle.heads.proofs.move_down.Reads as move-down-reads
 use Rattle.octets.proofs.byte.Reads as byte-reads
 
--- src/lib.rt:41:24
 add-byte : tie.Need-add-byte
 add-byte c = search needs
 
--- src/lib.rt:41:9
 byte-requires : tie.Need-byte-requires
 byte-requires c κs = search needs
 
--- src/lib.rt:43:9
 same-length : tie.Need-same-length
 same-length c = search needs
 
--- src/lib.rt:43:9
 returns : tie.Need-returns
 returns c =
     let s = c .before .before .before .before in
     pop-none (s .args .j) (s .pre .1) (s .args .pool .now) _ (c .before .byte .ensures .0) (c .if1 .taken)
 
--- src/lib.rt:45:26
 mul-move-down : tie.Need-mul-move-down
 mul-move-down c = search needs
 
--- src/lib.rt:45:21
 add-move-down : tie.Need-add-move-down
 add-move-down c = search needs
 
--- src/lib.rt:45:5
 move-down-requires : tie.Need-move-down-requires
 move-down-requires c κs = search needs
 
--- src/lib.rt:46:21
 sub-pool : tie.Need-sub-pool
 sub-pool c = search needs
 
--- src/lib.rt:46:20
 cast-pool : tie.Need-cast-pool
 cast-pool c = search needs
 
--- src/lib.rt:46:10
 add-pool : tie.Need-add-pool
 add-pool c = search needs
 
--- src/lib.rt:46:5
 slice-write-pool : tie.Need-slice-write-pool
 slice-write-pool c = search needs
 
--- src/lib.rt:37:1
 same-length-2 : tie.Need-same-length-2
 same-length-2 c = search needs
 
--- src/lib.rt:37:1
 returns-2 : tie.Need-returns-2
 returns-2 c =
     let s = c .before .before .before .before .before .before .before .before in

@@ -10,65 +10,50 @@ use Rattle.heads.proofs.push_back.Reads as reads
 use Rattle.heads.proofs.push_back.Lts as lts
 use Rattle.octets.proofs.byte.Reads as byte-reads
 
--- src/lib.rt:54:24
 add-byte : tie.Need-add-byte
 add-byte c = search needs
 
--- src/lib.rt:54:13
 byte-requires : tie.Need-byte-requires
 byte-requires c κs = search needs
 
--- src/lib.rt:56:9
 same-length : tie.Need-same-length
 same-length c = search needs
 
--- src/lib.rt:56:9
 returns : tie.Need-returns
 returns c =
     let s = c .before .before .before .before in
     back-full (s .args .j) (s .pre .1) (s .args .pool .now) _ (c .before .byte .ensures .0) (s .args .slot) (c .if1 .taken)
 
--- src/lib.rt:58:29
 cast-pool : tie.Need-cast-pool
 cast-pool c = search needs
 
--- src/lib.rt:58:15
 mul-pool : tie.Need-mul-pool
 mul-pool c = search needs
 
--- src/lib.rt:58:10
 add-pool : tie.Need-add-pool
 add-pool c = search needs
 
--- src/lib.rt:58:10
 add-pool-2 : tie.Need-add-pool-2
 add-pool-2 c = search needs
 
--- src/lib.rt:58:5
 slice-write-pool : tie.Need-slice-write-pool
 slice-write-pool c = search needs
 
--- src/lib.rt:59:21
 add-pool-3 : tie.Need-add-pool-3
 add-pool-3 c = search needs
 
--- src/lib.rt:59:20
 cast-pool-2 : tie.Need-cast-pool-2
 cast-pool-2 c = search needs
 
--- src/lib.rt:59:10
 add-pool-4 : tie.Need-add-pool-4
 add-pool-4 c = search needs
 
--- src/lib.rt:59:5
 slice-write-pool-2 : tie.Need-slice-write-pool-2
 slice-write-pool-2 c = simp length-set (omega arith)
 
--- src/lib.rt:50:1
 same-length-2 : tie.Need-same-length-2
 same-length-2 c = search needs
 
--- src/lib.rt:50:1
 returns-2 : tie.Need-returns-2
 returns-2 c =
     let s = c .before .before .before .before in

@@ -11,61 +11,47 @@ use Rattle.heads.proofs.push_front.Lts as lts
 use Rattle.heads.proofs.move_up.Reads as move-up-reads
 use Rattle.octets.proofs.byte.Reads as byte-reads
 
--- src/lib.rt:67:24
 add-byte : tie.Need-add-byte
 add-byte c = search needs
 
--- src/lib.rt:67:9
 byte-requires : tie.Need-byte-requires
 byte-requires c κs = search needs
 
--- src/lib.rt:69:9
 same-length : tie.Need-same-length
 same-length c = search needs
 
--- src/lib.rt:69:9
 returns : tie.Need-returns
 returns c =
     let s = c .before .before .before .before in
     front-full (s .args .j) (s .pre .1) (s .args .pool .now) _ (c .before .byte .ensures .0) (s .args .slot) (c .if1 .taken)
 
--- src/lib.rt:71:24
 mul-move-up : tie.Need-mul-move-up
 mul-move-up c = search needs
 
--- src/lib.rt:71:19
 add-move-up : tie.Need-add-move-up
 add-move-up c = search needs
 
--- src/lib.rt:71:32
 cast-move-up : tie.Need-cast-move-up
 cast-move-up c = search needs
 
--- src/lib.rt:71:5
 move-up-requires : tie.Need-move-up-requires
 move-up-requires c κs = search needs
 
--- src/lib.rt:72:21
 add-pool : tie.Need-add-pool
 add-pool c = search needs
 
--- src/lib.rt:72:20
 cast-pool : tie.Need-cast-pool
 cast-pool c = search needs
 
--- src/lib.rt:72:10
 add-pool-2 : tie.Need-add-pool-2
 add-pool-2 c = search needs
 
--- src/lib.rt:72:5
 slice-write-pool : tie.Need-slice-write-pool
 slice-write-pool c = search needs
 
--- src/lib.rt:63:1
 same-length-2 : tie.Need-same-length-2
 same-length-2 c = search needs
 
--- src/lib.rt:63:1
 returns-2 : tie.Need-returns-2
 returns-2 c =
     let s = c .before .before .before .before .before .before .before .before in

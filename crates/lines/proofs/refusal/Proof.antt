@@ -7,31 +7,24 @@ use borrow.Author.Needs.{needs}
 use Rattle.lines.proofs.refusal.Statement.{statement}
 use Rattle.lines.proofs.refusal.Tie as tie
 
--- src/lib.rt:123:26
 slice-aggregate-word : tie.Need-slice-aggregate-word
 slice-aggregate-word c = search needs
 
--- src/lib.rt:123:9
 word-requires : tie.Need-word-requires
 word-requires c κs = search needs
 
--- src/lib.rt:124:9
 wide-field-requires : tie.Need-wide-field-requires
 wide-field-requires c κs = search needs
 
--- src/lib.rt:125:18
 slice-aggregate-word-2 : tie.Need-slice-aggregate-word-2
 slice-aggregate-word-2 c = search needs
 
--- src/lib.rt:125:5
 word-requires-2 : tie.Need-word-requires-2
 word-requires-2 c κs = search needs
 
--- src/lib.rt:119:1
 same-length : tie.Need-same-length
 same-length c = search needs
 
--- src/lib.rt:119:1
 returns : tie.Need-returns
 unfolding refusedWord newline
 returns c =

@@ -8,23 +8,18 @@ use borrow.Author.Needs.{needs}
 use Rattle.lines.proofs.wide_field.Statement.{statement}
 use Rattle.lines.proofs.wide_field.Tie as tie
 
--- src/lib.rt:53:5
 slice-write-out : tie.Need-slice-write-out
 slice-write-out c = search needs
 
--- src/lib.rt:54:17
 add-number : tie.Need-add-number
 add-number c = search needs
 
--- src/lib.rt:54:5
 number-requires : tie.Need-number-requires
 number-requires c κs = let s = c .before .before in simp length-set (omega (arith, ten-digits (s .args .x) (s .pre .0)))
 
--- src/lib.rt:49:1
 same-length : tie.Need-same-length
 same-length c = c .before .before .number .kept .0 ∙ length-set (c .before .before .before .before .before .args .out .now) (c .before .before .before .before .before .args .n) 32
 
--- src/lib.rt:49:1
 returns : tie.Need-returns
 returns c =
     let s = c .before .before .before .before .before in

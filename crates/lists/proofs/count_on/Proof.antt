@@ -10,51 +10,39 @@ use Rattle.lists.proofs.count_on.Reads as reads
 use Rattle.lists.proofs.count_on.Lts as lts
 use Rattle.lists.proofs.next_number.Reads as next-number-reads
 
--- src/lib.rt:82:16
 next-number-requires : tie.Need-next-number-requires
 next-number-requires c κs = search needs
 
--- src/lib.rt:82:16
 add-next : tie.Need-add-next
 add-next c = search needs
 
--- src/lib.rt:85:15
 cast-pool : tie.Need-cast-pool
 cast-pool c = search needs
 
--- src/lib.rt:85:5
 slice-write-pool : tie.Need-slice-write-pool
 slice-write-pool c = search needs
 
--- src/lib.rt:86:15
 cast-pool-2 : tie.Need-cast-pool-2
 cast-pool-2 c = search needs
 
--- src/lib.rt:86:5
 slice-write-pool-2 : tie.Need-slice-write-pool-2
 slice-write-pool-2 c = simp length-set (omega arith)
 
--- src/lib.rt:87:16
 cast-pool-3 : tie.Need-cast-pool-3
 cast-pool-3 c = search needs
 
--- src/lib.rt:87:5
 slice-write-pool-3 : tie.Need-slice-write-pool-3
 slice-write-pool-3 c = simp length-set (omega arith)
 
--- src/lib.rt:88:16
 cast-pool-4 : tie.Need-cast-pool-4
 cast-pool-4 c = search needs
 
--- src/lib.rt:88:5
 slice-write-pool-4 : tie.Need-slice-write-pool-4
 slice-write-pool-4 c = simp length-set (omega arith)
 
--- src/lib.rt:78:1
 same-length : tie.Need-same-length
 same-length c = search needs
 
--- src/lib.rt:78:1
 returns : tie.Need-returns
 returns c = counts-on (c .before .before .before .args .pool .now) _ (c .next-number .ensures .0) _ refl
 

@@ -10,47 +10,37 @@ use Rattle.heads.proofs.push_back.Reads as push-back-reads
 use Rattle.heads.proofs.push_front.Reads as push-front-reads
 use Rattle.octets.proofs.byte.Reads as byte-reads
 
--- src/lib.rt:115:9
 push-back-requires : tie.Need-push-back-requires
 push-back-requires c κs = search needs
 
--- src/lib.rt:116:9
 same-length : tie.Need-same-length
 same-length c = search needs
 
--- src/lib.rt:116:9
 returns : tie.Need-returns
 returns c =
     let s = c .before .before .before .before .before .before .args in
     rw (c .before .before .before .before .if1 .taken) (enlist-cut (s .slot) (s .pool .now) _ (c .before .before .push-back .ensures))
 
--- src/lib.rt:118:8
 byte-requires : tie.Need-byte-requires
 byte-requires c κs = search needs
 
--- src/lib.rt:119:9
 push-back-requires-2 : tie.Need-push-back-requires-2
 push-back-requires-2 c κs = search needs
 
--- src/lib.rt:120:9
 same-length-2 : tie.Need-same-length-2
 same-length-2 c = search needs
 
--- src/lib.rt:120:9
 returns-2 : tie.Need-returns-2
 returns-2 c =
     let s = c .before .before .before .before .before .before .before .before .before .args in
     rw (c .before .before .before .before .before .before .before .if1 .left) (enlist-fifo (s .slot) (s .pool .now) _ (sym (c .before .before .before .before .before .byte .ensures .0) ∙ c .before .before .before .before .if2 .taken) (c .before .before .push-back2 .ensures))
 
--- src/lib.rt:122:5
 push-front-requires : tie.Need-push-front-requires
 push-front-requires c κs = search needs
 
--- src/lib.rt:110:1
 same-length-3 : tie.Need-same-length-3
 same-length-3 c = search needs
 
--- src/lib.rt:110:1
 returns-3 : tie.Need-returns-3
 returns-3 c =
     let s = c .before .before .before .before .before .before .before .before .before .args in

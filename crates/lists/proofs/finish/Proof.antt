@@ -9,23 +9,18 @@ use Rattle.heads.proofs.pop.Reads as pop-reads
 use Rattle.heads.proofs.push_back.Reads as push-back-reads
 use Rattle.octets.proofs.byte.Reads as byte-reads
 
--- src/lib.rt:96:9
 byte-requires : tie.Need-byte-requires
 byte-requires c κs = search needs
 
--- src/lib.rt:97:5
 pop-requires : tie.Need-pop-requires
 pop-requires c κs = search needs
 
--- src/lib.rt:98:5
 push-back-requires : tie.Need-push-back-requires
 push-back-requires c κs = search needs
 
--- src/lib.rt:92:1
 same-length : tie.Need-same-length
 same-length c = search needs
 
--- src/lib.rt:92:1
 returns : tie.Need-returns
 returns c = finished (c .before .before .before .before .before .before .before .before .before .before .before .args .pool .now) _ _ _ (c .before .before .before .before .before .before .before .before .byte .ensures .0) (c .before .before .before .before .before .before .pop .ensures) (c .before .before .push-back .ensures)
 

@@ -7,15 +7,12 @@ use Rattle.lists.proofs.forget.Reads as reads
 use Rattle.lists.proofs.forget.Lts as lts
 use Rattle.heads.proofs.pop.Reads as pop-reads
 
--- src/lib.rt:106:5
 pop-requires : tie.Need-pop-requires
 pop-requires c κs = search needs
 
--- src/lib.rt:102:1
 same-length : tie.Need-same-length
 same-length c = search needs
 
--- src/lib.rt:102:1
 returns : tie.Need-returns
 returns c = forgotten _ _ (c .before .before .pop .ensures)
 

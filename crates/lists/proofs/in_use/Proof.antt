@@ -7,30 +7,24 @@ use Rattle.lists.proofs.in_use.Reads as reads
 use Rattle.lists.proofs.in_use.Lts as lts
 use Rattle.lists.proofs.in_list.Reads as in-list-reads
 
--- src/lib.rt:45:8
 in-list-requires : tie.Need-in-list-requires
 in-list-requires c κs = search needs
 
--- src/lib.rt:46:9
 returns : tie.Need-returns
 returns c = used-first (c .before .before .before .args .p .now) (c .before .before .before .args .i) (sym (c .if1 .taken) ∙ c .before .in-list .ensures)
 
--- src/lib.rt:48:8
 in-list-requires-2 : tie.Need-in-list-requires-2
 in-list-requires-2 c κs = search needs
 
--- src/lib.rt:49:9
 returns-2 : tie.Need-returns-2
 returns-2 c =
     let q = c .before .before .before in
     let s = q .before .before in
     used-second (s .args .p .now) (s .args .i) (sym (c .before .before .if1 .left) ∙ q .in-list .ensures) (sym (c .if2 .taken) ∙ c .before .in-list2 .ensures)
 
--- src/lib.rt:51:5
 in-list-requires-3 : tie.Need-in-list-requires-3
 in-list-requires-3 c κs = search needs
 
--- src/lib.rt:41:1
 returns-3 : tie.Need-returns-3
 returns-3 c =
     let q = c .before .before .before .before in

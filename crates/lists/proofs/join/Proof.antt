@@ -8,19 +8,15 @@ use Rattle.lists.proofs.join.Lts as lts
 use Rattle.lists.proofs.count_on.Reads as count-on-reads
 use Rattle.lists.proofs.enlist.Reads as enlist-reads
 
--- src/lib.rt:130:5
 enlist-requires : tie.Need-enlist-requires
 enlist-requires c κs = search needs
 
--- src/lib.rt:131:5
 count-on-requires : tie.Need-count-on-requires
 count-on-requires c κs = search needs
 
--- src/lib.rt:126:1
 same-length : tie.Need-same-length
 same-length c = search needs
 
--- src/lib.rt:126:1
 returns : tie.Need-returns
 returns c = joined (c .before .before .before .before .before .before .before .before .before .args .slot) (c .before .before .before .before .before .before .before .before .before .args .cut) (c .before .before .before .before .before .before .before .before .before .args .pool .now) _ _ (c .before .before .before .before .before .before .enlist .ensures) (c .before .before .count-on .ensures)
 

@@ -6,23 +6,18 @@ use Rattle.lists.proofs.next_number.Reads as reads
 use Rattle.lists.proofs.next_number.Lts as lts
 use Rattle.octets.proofs.num16.Reads as num16-reads
 
--- src/lib.rt:72:5
 num16-requires : tie.Need-num16-requires
 num16-requires c κs = search needs
 
--- src/lib.rt:72:27
 num16-requires-2 : tie.Need-num16-requires-2
 num16-requires-2 c κs = search needs
 
--- src/lib.rt:72:19
 mul-result : tie.Need-mul-result
 mul-result c = search needs
 
--- src/lib.rt:72:5
 add-result : tie.Need-add-result
 add-result c = search needs
 
--- src/lib.rt:69:1
 returns : tie.Need-returns
 unfolding nextIn
 returns c = search needs

@@ -24,14 +24,12 @@ Inv-loop book at n v kind number place env₀ base w₀ le lk lf dom₀ pool₀ 
 abbrev μ-loop : tie.MeasureT-loop
 μ-loop book at n v kind number place env₀ base w₀ le lk lf dom₀ pool₀ slots p₀ i₀ env w dom pool p i = n - i
 
--- src/lib.rt:71:5
 loop-holds : tie.Need-loop-holds Inv-loop μ-loop
 loop-holds c =
     let s = c .before .before .before .before .before .before in
     let a = s .args in
     (omega arith, (s .pre .0 .0, (refl, (refl, (refl, (refl, (refl, placed-start (a .book .now) (a .at) (a .n) (a .v) (boundOf (a .kind) (a .number)) (limitsOf (a .le) (a .lk) (a .lf)) (a .place) (a .env .now) (a .base .now) (a .slots) (a .pool .now))))))))
 
--- src/lib.rt:72:9
 place-one-requires : tie.Need-place-one-requires Inv-loop μ-loop
 place-one-requires c κs =
     let l = c .before .before .before .before .before in
@@ -54,19 +52,15 @@ place-one-requires c κs =
       omega (arith, i .1 .1 .1 .1 .0, s .pre .1),
     )
 
--- src/lib.rt:73:9
 skip-disjunct-requires : tie.Need-skip-disjunct-requires Inv-loop μ-loop
 skip-disjunct-requires c κs = search needs
 
--- src/lib.rt:74:9
 add-i : tie.Need-add-i Inv-loop μ-loop
 add-i c = omega (arith, c .before .before .before .before .before .before .before .before .before .before .before .before .before .before .loop-test .taken)
 
--- src/lib.rt:71:5
 loop-less : tie.Need-loop-less Inv-loop μ-loop
 loop-less c = omega (arith, c .before .before .before .before .before .before .before .before .before .before .before .before .before .before .loop-test .taken)
 
--- src/lib.rt:71:5
 loop-again : tie.Need-loop-again Inv-loop μ-loop
 loop-again c =
     let l = c .before .before .before .before .before .before .before .before .before .before .before .before .before .before .before in
@@ -80,23 +74,18 @@ loop-again c =
     let next = placed-next (a .book .now) (a .at) (a .n) (a .v) (boundOf (a .kind) (a .number)) (limitsOf (a .le) (a .lk) (a .lf)) (a .place) (a .env .now) (a .base .now) (a .slots) (a .pool .now) (l .loop .i) (l .loop .p) (l .loop .pool) (i .1 .1 .1 .1 .1 .1) t (g .last .1 .1 .1 .1 .1 .1 .1 .1 .1 .1 .1 .1 .1 .0) one (c .skip-disjunct .result) (c .skip-disjunct .ensures .1) in
     (omega (arith, t), (c .skip-disjunct .ensures .0 .1, (g .kept .1 .1 .1 .1 .1 .1 .0 ∙ i .1 .0, (g .kept .1 .1 .1 .1 .1 .1 .1 .1 .0 ∙ i .1 .1 .0, (g .kept .1 .1 .1 .1 .1 .1 .1 .1 .1 .1 .1 .1 .0 ∙ i .1 .1 .1 .0, (g .kept .1 .1 .1 .1 .1 .1 .1 .1 .1 .1 .1 .1 .1 .0 ∙ i .1 .1 .1 .1 .0, (g .ensures .0 ∙ i .1 .1 .1 .1 .1 .0, next)))))))
 
--- src/lib.rt:48:1
 same-length : tie.Need-same-length Inv-loop μ-loop
 same-length c = search needs
 
--- src/lib.rt:48:1
 same-length-2 : tie.Need-same-length-2 Inv-loop μ-loop
 same-length-2 c = search needs
 
--- src/lib.rt:48:1
 same-length-3 : tie.Need-same-length-3 Inv-loop μ-loop
 same-length-3 c = search needs
 
--- src/lib.rt:48:1
 same-length-4 : tie.Need-same-length-4 Inv-loop μ-loop
 same-length-4 c = search needs
 
--- src/lib.rt:48:1
 returns : tie.Need-returns Inv-loop μ-loop
 returns c =
     let l = c .before in

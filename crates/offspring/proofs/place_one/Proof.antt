@@ -14,31 +14,24 @@ use Rattle.adopting.proofs.place_child.Reads as place-child-reads
 use Rattle.deriving.proofs.derive.Reads as derive-reads
 use Rattle.lists.proofs.lowest_free.Reads as lowest-free-reads
 
--- src/lib.rt:39:9
 derive-requires : tie.Need-derive-requires
 derive-requires c κs = search needs
 
--- src/lib.rt:40:9
 lowest-free-requires : tie.Need-lowest-free-requires
 lowest-free-requires c κs = search needs
 
--- src/lib.rt:42:9
 same-length : tie.Need-same-length
 same-length c = search needs
 
--- src/lib.rt:42:9
 same-length-2 : tie.Need-same-length-2
 same-length-2 c = search needs
 
--- src/lib.rt:42:9
 same-length-3 : tie.Need-same-length-3
 same-length-3 c = search needs
 
--- src/lib.rt:42:9
 same-length-4 : tie.Need-same-length-4
 same-length-4 c = search needs
 
--- src/lib.rt:42:9
 returns : tie.Need-returns
 returns c =
     let l = c .before .lowest-free in
@@ -49,7 +42,6 @@ returns c =
           (g .result .cut) (g .result .over) (g .last .1 .1 .1 .1 .1 .1 .1 .0) (g .ensures .1 .1) (l .result) (l .ensures .0) (l .ensures .1) (c .if1 .taken),
     )
 
--- src/lib.rt:44:5
 place-child-requires : tie.Need-place-child-requires
 place-child-requires c κs =
     let g = c .before .before .before .before .before .before .before .before .before .before .before .derive in
@@ -57,23 +49,18 @@ place-child-requires c κs =
     let a = s .args in
     (g .ensures .1 .0 .formed, slot-inside (16 + 8 * a .lk + 8 * a .lf + a .le) (c .before .before .before .lowest-free .result) (a .slots) (length (a .pool .now)) (omega (arith, c .before .before .if1 .left)) (s .pre .1))
 
--- src/lib.rt:18:1
 same-length-5 : tie.Need-same-length-5
 same-length-5 c = search needs
 
--- src/lib.rt:18:1
 same-length-6 : tie.Need-same-length-6
 same-length-6 c = search needs
 
--- src/lib.rt:18:1
 same-length-7 : tie.Need-same-length-7
 same-length-7 c = search needs
 
--- src/lib.rt:18:1
 same-length-8 : tie.Need-same-length-8
 same-length-8 c = search needs
 
--- src/lib.rt:18:1
 returns-2 : tie.Need-returns-2
 returns-2 c =
     let l = c .before .before .before .before .before .before .before .before .lowest-free in

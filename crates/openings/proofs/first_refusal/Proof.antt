@@ -4,15 +4,12 @@ use Rattle.openings.proofs.first_refusal.Tie as tie
 use Rattle.openings.proofs.first_refusal.Reads as reads
 use Rattle.openings.proofs.first_refusal.Lts as lts
 
--- src/lib.rt:66:13
 returns : tie.Need-returns
 returns c = neither _ _ (c .before .if1 .taken) (c .if2 .taken)
 
--- src/lib.rt:68:9
 returns-2 : tie.Need-returns-2
 returns-2 c = twelve _ _ (c .before .if1 .taken) (c .if2 .left)
 
--- src/lib.rt:61:1
 returns-3 : tie.Need-returns-3
 returns-3 c = eleven _ _ (c .if1 .left)
 

@@ -4,11 +4,9 @@ use Rattle.openings.proofs.known_settings.Tie as tie
 use Rattle.openings.proofs.known_settings.Reads as reads
 use Rattle.openings.proofs.known_settings.Lts as lts
 
--- src/lib.rt:78:9
 returns : tie.Need-returns
 returns c = scheduler-unknown _ _ (c .if1 .taken)
 
--- src/lib.rt:74:1
 returns-2 : tie.Need-returns-2
 returns-2 c = strategy-decides _ _ (c .if1 .left)
 

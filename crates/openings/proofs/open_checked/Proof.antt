@@ -12,23 +12,18 @@ use Rattle.openings.proofs.known_settings.Reads as known-settings-reads
 use Rattle.openings.proofs.right_length.Reads as right-length-reads
 use Rattle.openings.proofs.write_open.Reads as write-open-reads
 
--- src/lib.rt:87:9
 right-length-requires : tie.Need-right-length-requires
 right-length-requires c κs = search needs
 
--- src/lib.rt:88:9
 known-settings-requires : tie.Need-known-settings-requires
 known-settings-requires c κs = search needs
 
--- src/lib.rt:89:9
 first-refusal-requires : tie.Need-first-refusal-requires
 first-refusal-requires c κs = search needs
 
--- src/lib.rt:91:9
 returns : tie.Need-returns
 returns c = open-unfit _ _ _ _ (c .before .first-refusal .ensures ∙ ap₂ firstRefusal (c .before .before .before .right-length .ensures) (c .before .before .known-settings .ensures)) (c .if1 .taken)
 
--- src/lib.rt:93:5
 write-open-requires : tie.Need-write-open-requires
 write-open-requires c κs =
     let a = c .before .before .before .before .before .before .args in
@@ -36,11 +31,9 @@ write-open-requires c κs =
     let s = settings-within (a .scheduler) (a .strategy) (f .1) in
     (length-least _ (f .0), (right-true _ (f .0), (s .0, s .1)))
 
--- src/lib.rt:84:1
 same-length : tie.Need-same-length
 same-length c = search needs
 
--- src/lib.rt:84:1
 returns-2 : tie.Need-returns-2
 returns-2 c = opens _ _ _ _ (c .before .before .before .before .before .first-refusal .ensures ∙ ap₂ firstRefusal (c .before .before .before .before .before .before .before .right-length .ensures) (c .before .before .before .before .before .before .known-settings .ensures)) (c .before .before .before .before .if1 .left) _ (c .before .before .write-open .ensures)
 

@@ -7,51 +7,39 @@ use borrow.Author.Needs.{needs}
 use Rattle.printing.proofs.opened_text.Statement.{statement}
 use Rattle.printing.proofs.opened_text.Tie as tie
 
--- src/main.rt:36:17
 byte-requires : tie.Need-byte-requires
 byte-requires c κs = search needs
 
--- src/main.rt:36:17
 cast-bound : tie.Need-cast-bound
 cast-bound c = search needs
 
--- src/main.rt:37:19
 num16-requires : tie.Need-num16-requires
 num16-requires c κs = search needs
 
--- src/main.rt:37:45
 num16-requires-2 : tie.Need-num16-requires-2
 num16-requires-2 c κs = search needs
 
--- src/main.rt:37:37
 mul-number : tie.Need-mul-number
 mul-number c = search needs
 
--- src/main.rt:37:19
 add-number : tie.Need-add-number
 add-number c = search needs
 
--- src/main.rt:37:18
 cast-number : tie.Need-cast-number
 cast-number c = search needs
 
--- src/main.rt:38:28
 sub-run : tie.Need-sub-run
 sub-run c = search needs
 
--- src/main.rt:38:28
 part-run-start : tie.Need-part-run-start
 part-run-start c = search needs
 
--- src/main.rt:38:28
 part-run-end : tie.Need-part-run-end
 part-run-end c = search needs
 
--- src/main.rt:38:9
 run-requires : tie.Need-run-requires
 run-requires c κs = search needs
 
--- src/main.rt:39:5
 ran-text-requires : tie.Need-ran-text-requires
 ran-text-requires c κs =
     let s = c .before .before .before .before .before .before .before .before .before .before .before .before .before in
@@ -59,15 +47,12 @@ ran-text-requires c κs =
     let f = few-listed (s .args .input .now) (s .args .pool .now) (s .pre .0) _ _ _ p in
     (search needs, omega arith)
 
--- src/main.rt:32:1
 same-length : tie.Need-same-length
 same-length c = search needs
 
--- src/main.rt:32:1
 same-length-2 : tie.Need-same-length-2
 same-length-2 c = search needs
 
--- src/main.rt:32:1
 returns : tie.Need-returns
 returns c =
     let s = c .before .before .before .before .before .before .before .before .before .before .before .before .before .before .before .before in

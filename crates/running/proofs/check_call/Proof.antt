@@ -9,31 +9,25 @@ use Rattle.running.proofs.check_call.Lts as lts
 use Rattle.book.proofs.check_book.Reads as check-book-reads
 use Rattle.running.proofs.check_pool.Reads as check-pool-reads
 
--- src/lib.rt:53:11
 check-book-requires : tie.Need-check-book-requires
 check-book-requires c κs = search needs
 
--- src/lib.rt:54:26
 enum-known-n : tie.Need-enum-known-n
 enum-known-n c = search needs
 
--- src/lib.rt:55:23
 enum-known-e : tie.Need-enum-known-e
 enum-known-e c = search needs
 
--- src/lib.rt:55:29
 check-pool-requires : tie.Need-check-pool-requires
 check-pool-requires c κs =
     let d = checked-ends _ _ (sym (c .before .e .given .1) ∙ c .before .before .before .check-book .ensures) in
     read-as _ _ _ (d .read)
 
--- src/lib.rt:50:1
 returns : tie.Need-returns
 returns c =
     let s = c .before .before .before .before .before .before .args in
     verdict-book (s .book .now) (s .pool .now) (s .bound) (s .number) _ _ (checked-refused _ _ _ (sym (c .before .n .given .1) ∙ c .before .before .before .check-book .ensures))
 
--- src/lib.rt:50:1
 returns-2 : tie.Need-returns-2
 returns-2 c = search needs
 

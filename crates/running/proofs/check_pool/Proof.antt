@@ -12,40 +12,33 @@ use Rattle.openings.proofs.right_length.Reads as right-length-reads
 use Rattle.poolcheck.proofs.pool_sound.Reads as pool-sound-reads
 use Rattle.running.proofs.known_bound.Reads as known-bound-reads
 
--- src/lib.rt:38:9
 right-length-requires : tie.Need-right-length-requires
 right-length-requires c κs = search needs
 
--- src/lib.rt:39:9
 known-bound-requires : tie.Need-known-bound-requires
 known-bound-requires c κs = search needs
 
--- src/lib.rt:40:9
 first-refusal-requires : tie.Need-first-refusal-requires
 first-refusal-requires c κs = search needs
 
--- src/lib.rt:42:9
 returns : tie.Need-returns
 returns c =
     let s = c .before .before .before .before .before .before in
     let a = s .args in
     verdict-unfit (a .book .now) (a .pool .now) (a .bound) (a .number) _ _ (s .pre .reads) _ (c .before .first-refusal .ensures ∙ ap₂ firstRefusal (c .before .before .before .right-length .ensures) (c .before .before .known-bound .ensures)) (c .if1 .taken)
 
--- src/lib.rt:44:8
 pool-sound-requires : tie.Need-pool-sound-requires
 pool-sound-requires c κs =
     let s = c .before .before .before .before .before .before in
     let a = s .args in
     right (a .book .now) (a .pool .now) (a .bound) (a .number) _ _ (s .pre .reads) _ (c .before .first-refusal .ensures ∙ ap₂ firstRefusal (c .before .before .before .right-length .ensures) (c .before .before .known-bound .ensures)) (c .if1 .left)
 
--- src/lib.rt:45:9
 returns-2 : tie.Need-returns-2
 returns-2 c =
     let s = c .before .before .before .before .before .before .before .before in
     let a = s .args in
     verdict-sound (a .book .now) (a .pool .now) (a .bound) (a .number) _ _ (s .pre .reads) _ (c .before .before .before .first-refusal .ensures ∙ ap₂ firstRefusal (c .before .before .before .before .before .right-length .ensures) (c .before .before .before .before .known-bound .ensures)) (c .before .before .if1 .left) _ (c .before .pool-sound .ensures) (c .if2 .taken)
 
--- src/lib.rt:34:1
 returns-3 : tie.Need-returns-3
 returns-3 c =
     let s = c .before .before .before .before .before .before .before .before in

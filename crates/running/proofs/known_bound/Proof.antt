@@ -7,15 +7,12 @@ use Rattle.running.proofs.known_bound.Tie as tie
 use Rattle.running.proofs.known_bound.Reads as reads
 use Rattle.running.proofs.known_bound.Lts as lts
 
--- src/lib.rt:24:9
 returns : tie.Need-returns
 returns c = bound-unknown (c .before .args .bound) (c .before .args .number) (c .if1 .taken)
 
--- src/lib.rt:27:9
 returns-2 : tie.Need-returns-2
 returns-2 c = bound-none (c .before .before .args .bound) (c .before .before .args .number) (omega (arith, c .before .if1 .left)) (c .if2 .taken) _ refl
 
--- src/lib.rt:20:1
 returns-3 : tie.Need-returns-3
 returns-3 c = bound-some (c .before .before .args .bound) (c .before .before .args .number) (omega (arith, c .before .if1 .left)) (c .if2 .left)
 

@@ -20,56 +20,45 @@ Inv-loop book pool₀ bound number budget base₀ w₀ env₀ dom₀ k₀ pool b
 abbrev μ-loop : tie.MeasureT-loop
 μ-loop book pool₀ bound number budget base₀ w₀ env₀ dom₀ k₀ pool base w env dom k = budget - k
 
--- src/lib.rt:96:5
 loop-holds : tie.Need-loop-holds Inv-loop μ-loop
 loop-holds c =
     let s = c .before .before .before .before .before .before in
     let a = s .args in
     (omega arith, (s .pre .0, (refl, (refl, (refl, (refl, (refl, run-start (a .book .now) (a .pool .now) (a .bound) (a .number) (a .budget))))))))
 
--- src/lib.rt:97:13
 step-in-requires : tie.Need-step-in-requires Inv-loop μ-loop
 step-in-requires c κs =
     let i = c .before .before .before .before .before .before .loop .inv .1 in
     let q = c .before .before .before .before .before .before .before .before .before .before .before .before .before .pre .1 in
     (i .0, (i .1 .0 ∙ q .0, (i .1 .1 .0 ∙ q .1 .0, (omega (arith, i .1 .1 .1 .0, q .1 .1 .0), omega (arith, i .1 .1 .1 .1 .0, q .1 .1 .1)))))
 
--- src/lib.rt:99:13
 same-length : tie.Need-same-length Inv-loop μ-loop
 same-length c = search needs
 
--- src/lib.rt:99:13
 same-length-2 : tie.Need-same-length-2 Inv-loop μ-loop
 same-length-2 c = search needs
 
--- src/lib.rt:99:13
 same-length-3 : tie.Need-same-length-3 Inv-loop μ-loop
 same-length-3 c = search needs
 
--- src/lib.rt:99:13
 same-length-4 : tie.Need-same-length-4 Inv-loop μ-loop
 same-length-4 c = search needs
 
--- src/lib.rt:99:13
 same-length-5 : tie.Need-same-length-5 Inv-loop μ-loop
 same-length-5 c = search needs
 
--- src/lib.rt:99:13
 returns : tie.Need-returns Inv-loop μ-loop
 returns c =
     let l = c .before .before .before .before .before .before .before .before .before .before .before .before .before .before .before .before .before .before in
     let a = c .before .before .before .before .before .before .before .before .before .before .before .before .before .before .before .before .before .before .before .before .before .before .before .before .before .args in
     run-stopped (a .book .now) (a .pool .now) (a .bound) (a .number) (a .budget) (l .loop .k) (l .loop .pool) (l .loop .inv .1 .1 .1 .1 .1 .1 .1) (c .before .before .before .before .before .before .before .before .before .before .before .before .before .before .before .before .before .loop-test .taken) _ _ (c .before .before .before .before .before .before .before .before .before .before .before .step-in .ensures) (c .if1 .taken)
 
--- src/lib.rt:101:9
 add-k : tie.Need-add-k Inv-loop μ-loop
 add-k c = omega (arith, c .before .before .before .before .before .before .before .before .before .before .before .before .before .before .before .before .before .loop-test .taken)
 
--- src/lib.rt:96:5
 loop-less : tie.Need-loop-less Inv-loop μ-loop
 loop-less c = omega (arith, c .before .before .before .before .before .before .before .before .before .before .before .before .before .before .before .before .before .loop-test .taken)
 
--- src/lib.rt:96:5
 loop-again : tie.Need-loop-again Inv-loop μ-loop
 loop-again c =
     let l = c .before .before .before .before .before .before .before .before .before .before .before .before .before .before .before .before .before .before in
@@ -99,27 +88,21 @@ loop-again c =
       ),
     )
 
--- src/lib.rt:81:1
 same-length-6 : tie.Need-same-length-6 Inv-loop μ-loop
 same-length-6 c = search needs
 
--- src/lib.rt:81:1
 same-length-7 : tie.Need-same-length-7 Inv-loop μ-loop
 same-length-7 c = search needs
 
--- src/lib.rt:81:1
 same-length-8 : tie.Need-same-length-8 Inv-loop μ-loop
 same-length-8 c = search needs
 
--- src/lib.rt:81:1
 same-length-9 : tie.Need-same-length-9 Inv-loop μ-loop
 same-length-9 c = search needs
 
--- src/lib.rt:81:1
 same-length-10 : tie.Need-same-length-10 Inv-loop μ-loop
 same-length-10 c = search needs
 
--- src/lib.rt:81:1
 returns-2 : tie.Need-returns-2 Inv-loop μ-loop
 returns-2 c =
     let l = c .before in

@@ -9,43 +9,33 @@ use Rattle.running.proofs.step.Lts as lts
 use Rattle.running.proofs.check_call.Reads as check-call-reads
 use Rattle.stepping.proofs.step_in.Reads as step-in-reads
 
--- src/lib.rt:62:9
 check-call-requires : tie.Need-check-call-requires
 check-call-requires c κs = search needs
 
--- src/lib.rt:64:9
 same-length : tie.Need-same-length
 same-length c = search needs
 
--- src/lib.rt:64:9
 returns : tie.Need-returns
 returns c = step-refused (c .before .before .before .before .before .args .book .now) (c .before .before .before .before .before .args .pool .now) (c .before .before .before .before .before .args .bound) (c .before .before .before .before .before .args .number) _ (c .before .check-call .ensures) (c .if1 .taken)
 
--- src/lib.rt:70:54
 slice-aggregate-step-in : tie.Need-slice-aggregate-step-in
 slice-aggregate-step-in c = search needs
 
--- src/lib.rt:70:65
 slice-aggregate-step-in-2 : tie.Need-slice-aggregate-step-in-2
 slice-aggregate-step-in-2 c = search needs
 
--- src/lib.rt:70:73
 slice-aggregate-step-in-3 : tie.Need-slice-aggregate-step-in-3
 slice-aggregate-step-in-3 c = search needs
 
--- src/lib.rt:70:83
 slice-aggregate-step-in-4 : tie.Need-slice-aggregate-step-in-4
 slice-aggregate-step-in-4 c = search needs
 
--- src/lib.rt:70:5
 step-in-requires : tie.Need-step-in-requires
 step-in-requires c κs = (c .before .before .before .before .before .before .check-call .ensures .passes (c .before .before .before .before .before .if1 .left) .standing, (refl, (refl, (omega arith, omega arith))))
 
--- src/lib.rt:59:1
 same-length-2 : tie.Need-same-length-2
 same-length-2 c = search needs
 
--- src/lib.rt:59:1
 returns-2 : tie.Need-returns-2
 returns-2 c =
     let a = c .before .before .before .before .before .before .before .before .before .before .before .before .before .before .before .before .before .args in

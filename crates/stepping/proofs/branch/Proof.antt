@@ -20,7 +20,6 @@ use Rattle.stepping.proofs.room_for.Reads as room-for-reads
 use Rattle.stepping.proofs.settle.Reads as settle-reads
 use Rattle.words.proofs.num16.Reads as num16-reads
 
--- src/lib.rt:115:9
 head-at-requires : tie.Need-head-at-requires
 head-at-requires c κs =
     let s = c .before .before .before .before .before .before in
@@ -28,11 +27,9 @@ head-at-requires c κs =
     let g = s .pre .0 in
     sequent-inside (a .book .now) (a .pool .now) (a .i) (a .q) (a .a) (a .base .now) (a .env .now) g
 
--- src/lib.rt:116:9
 num16-requires : tie.Need-num16-requires
 num16-requires c κs = search needs
 
--- src/lib.rt:118:9
 free-base-requires : tie.Need-free-base-requires
 free-base-requires c κs =
     let s = c .before .before .before .before .before .before .before .before .before .before in
@@ -40,11 +37,9 @@ free-base-requires c κs =
     let g = s .pre .0 in
     slot-inside (a .book .now) (a .pool .now) (a .i) (a .q) (a .a) (a .base .now) (a .env .now) g
 
--- src/lib.rt:119:9
 same-length : tie.Need-same-length
 same-length c = search needs
 
--- src/lib.rt:119:9
 returns : tie.Need-returns
 returns c =
     let s = c .before .before .before .before .before .before .before .before .before .before .before .before .before in
@@ -52,15 +47,12 @@ returns c =
     let g = s .pre .0 in
     out-failed (a .book .now) (a .pool .now) (a .i) (a .q) (a .a) (a .kind) (a .number) (a .base .now) (a .env .now) _ _ (num (a .book .now) (a .a)) (c .before .before .before .before .before .before .head-at .ensures .1) (c .before .before .before .before .before .num16 .ensures .0) refl (c .before .before .before .before .if1 .taken) _ (c .before .before .free-base .ensures)
 
--- src/lib.rt:121:13
 num16-requires-2 : tie.Need-num16-requires-2
 num16-requires-2 c κs = search needs
 
--- src/lib.rt:122:23
 add-any-over : tie.Need-add-any-over
 add-any-over c = search needs
 
--- src/lib.rt:122:8
 any-over-requires : tie.Need-any-over-requires
 any-over-requires c κs =
     let s = c .before .before .before .before .before .before .before .before .before .before .before .before .before in
@@ -69,19 +61,15 @@ any-over-requires c κs =
     let v = c .before .before .before .num162 in
     (head-inside (a .book .now) (a .pool .now) (a .i) (a .q) (a .a) (a .base .now) (a .env .now) g _ (c .before .before .before .before .before .before .head-at .ensures .1), (sequent-inside (a .book .now) (a .pool .now) (a .i) (a .q) (a .a) (a .base .now) (a .env .now) g .1, (v .ensures .1, (choice-there (a .book .now) (a .pool .now) (a .i) (a .q) (a .a) (a .base .now) (a .env .now) g _ (v .ensures .0) (a .env .now) (s .pre .1 .0) refl refl, (s .pre .1 .1 .0, (base-sturdy (a .book .now) (a .pool .now) (a .i) (a .q) (a .a) (a .base .now) (a .env .now) g, s .pre .1 .1 .1))))))
 
--- src/lib.rt:123:9
 same-length-2 : tie.Need-same-length-2
 same-length-2 c = search needs
 
--- src/lib.rt:123:9
 same-length-3 : tie.Need-same-length-3
 same-length-3 c = search needs
 
--- src/lib.rt:123:9
 same-length-4 : tie.Need-same-length-4
 same-length-4 c = search needs
 
--- src/lib.rt:123:9
 returns-2 : tie.Need-returns-2
 returns-2 c =
     let s = c .before .before .before .before .before .before .before .before .before .before .before .before .before .before .before .before .before .before .before .before .before in
@@ -89,7 +77,6 @@ returns-2 c =
     let g = s .pre .0 in
     out-over (a .book .now) (a .pool .now) (a .i) (a .q) (a .a) (a .kind) (a .number) (a .base .now) (a .env .now) _ _ _ (c .before .before .before .before .before .before .before .before .before .before .before .before .before .before .head-at .ensures .1) (c .before .before .before .before .before .before .before .before .before .before .before .before .before .num16 .ensures .0) (c .before .before .before .before .before .before .before .before .before .before .before .num162 .ensures .0) (c .before .before .before .before .before .before .before .before .before .before .before .before .if1 .left) (s .pre .1 .0) _ (c .before .before .before .before .before .before .before .any-over .ensures .1) (c .if2 .taken)
 
--- src/lib.rt:125:9
 room-for-requires : tie.Need-room-for-requires
 room-for-requires c κs =
     let s = c .before .before .before .before .before .before .before .before .before .before .before .before .before .before .before .before .before .before .before .before .before .before in
@@ -97,23 +84,18 @@ room-for-requires c κs =
     let g = s .pre .0 in
     (omega (arith, slot-inside (a .book .now) (a .pool .now) (a .i) (a .q) (a .a) (a .base .now) (a .env .now) g), c .before .before .before .before .before .before .before .before .before .before .before .before .before .before .num16 .ensures .1)
 
--- src/lib.rt:127:9
 same-length-5 : tie.Need-same-length-5
 same-length-5 c = search needs
 
--- src/lib.rt:127:9
 same-length-6 : tie.Need-same-length-6
 same-length-6 c = search needs
 
--- src/lib.rt:127:9
 same-length-7 : tie.Need-same-length-7
 same-length-7 c = search needs
 
--- src/lib.rt:127:9
 same-length-8 : tie.Need-same-length-8
 same-length-8 c = search needs
 
--- src/lib.rt:127:9
 returns-3 : tie.Need-returns-3
 returns-3 c =
     let s = c .before .before .before .before .before .before .before .before .before .before .before .before .before .before .before .before .before .before .before .before .before .before .before .before in
@@ -121,19 +103,15 @@ returns-3 c =
     let g = s .pre .0 in
     out-full (a .book .now) (a .pool .now) (a .i) (a .q) (a .a) (a .kind) (a .number) (a .base .now) (a .env .now) _ _ _ (c .before .before .before .before .before .before .before .before .before .before .before .before .before .before .before .before .before .head-at .ensures .1) (c .before .before .before .before .before .before .before .before .before .before .before .before .before .before .before .before .num16 .ensures .0) (c .before .before .before .before .before .before .before .before .before .before .before .before .before .before .num162 .ensures .0) (c .before .before .before .before .before .before .before .before .before .before .before .before .before .before .before .if1 .left) (s .pre .1 .0) _ (c .before .before .before .before .before .before .before .before .before .before .any-over .ensures .1) (c .before .before .before .if2 .left) _ (c .before .room-for .ensures) (c .if3 .taken)
 
--- src/lib.rt:129:28
 byte-requires : tie.Need-byte-requires
 byte-requires c κs = search needs
 
--- src/lib.rt:129:46
 sequent-count-requires : tie.Need-sequent-count-requires
 sequent-count-requires c κs = search needs
 
--- src/lib.rt:129:9
 next-place-requires : tie.Need-next-place-requires
 next-place-requires c κs = search needs
 
--- src/lib.rt:130:27
 add-settle : tie.Need-add-settle
 add-settle c =
     let s = c .before .before .before .before .before .before .before .before .before .before .before .before .before .before .before .before .before .before .before .before .before .before .before .before .before .before .before .before .before in
@@ -141,7 +119,6 @@ add-settle c =
     let g = s .pre .0 in
     omega (arith, head-inside (a .book .now) (a .pool .now) (a .i) (a .q) (a .a) (a .base .now) (a .env .now) g _ (c .before .before .before .before .before .before .before .before .before .before .before .before .before .before .before .before .before .before .before .before .before .before .head-at .ensures .1), sequent-inside (a .book .now) (a .pool .now) (a .i) (a .q) (a .a) (a .base .now) (a .env .now) g .1)
 
--- src/lib.rt:130:5
 settle-requires : tie.Need-settle-requires
 settle-requires c κs =
     let s = c .before .before .before .before .before .before .before .before .before .before .before .before .before .before .before .before .before .before .before .before .before .before .before .before .before .before .before .before .before .before .before .before in
@@ -164,23 +141,18 @@ settle-requires c κs =
       slot-inside (a .book .now) (a .pool .now) (a .i) (a .q) (a .a) (a .base .now) (a .env .now) g,
     )
 
--- src/lib.rt:99:1
 same-length-9 : tie.Need-same-length-9
 same-length-9 c = search needs
 
--- src/lib.rt:99:1
 same-length-10 : tie.Need-same-length-10
 same-length-10 c = search needs
 
--- src/lib.rt:99:1
 same-length-11 : tie.Need-same-length-11
 same-length-11 c = search needs
 
--- src/lib.rt:99:1
 same-length-12 : tie.Need-same-length-12
 same-length-12 c = search needs
 
--- src/lib.rt:99:1
 returns-4 : tie.Need-returns-4
 returns-4 c =
     let s = c .before .before .before .before .before .before .before .before .before .before .before .before .before .before .before .before .before .before .before .before .before .before .before .before .before .before .before .before .before .before .before .before .before .before .before .before .before .before .before .before .before in

@@ -14,31 +14,24 @@ use Rattle.stepping.proofs.head_at.Lts as lts
 use Rattle.skips.proofs.skip_literals.Reads as skip-literals-reads
 use Rattle.words.proofs.num16.Reads as num16-reads
 
--- src/lib.rt:37:8
 sub-if1 : tie.Need-sub-if1
 sub-if1 c = search needs
 
--- src/lib.rt:38:9
 returns : tie.Need-returns
 returns c = (omega arith, head-short (c .before .before .args .book .now) (c .before .before .args .a) (c .if1 .taken))
 
--- src/lib.rt:40:31
 add-skip-literals : tie.Need-add-skip-literals
 add-skip-literals c = search needs
 
--- src/lib.rt:40:50
 add-num16 : tie.Need-add-num16
 add-num16 c = search needs
 
--- src/lib.rt:40:38
 num16-requires : tie.Need-num16-requires
 num16-requires c κs = search needs
 
--- src/lib.rt:40:5
 skip-literals-requires : tie.Need-skip-literals-requires
 skip-literals-requires c κs = search needs
 
--- src/lib.rt:33:1
 returns-2 : tie.Need-returns-2
 returns-2 c = (c .skip-literals .ensures .0 .1, head-skips (c .before .before .before .before .args .book .now) (c .before .before .before .before .args .a) _ (subst (λ k. SkipsMany (LiteralText (namesIn (c .before .before .before .before .args .book .now)) (c .before .before .before .before .args .book .now)) (length (c .before .before .before .before .args .book .now)) (c .before .before .before .before .args .a + 4) k (c .skip-literals .result)) (c .before .num16 .ensures .0) (c .skip-literals .ensures .1)))
 

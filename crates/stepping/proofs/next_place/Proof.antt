@@ -6,27 +6,21 @@ use Rattle.stepping.proofs.next_place.Tie as tie
 use Rattle.stepping.proofs.next_place.Reads as reads
 use Rattle.stepping.proofs.next_place.Lts as lts
 
--- src/lib.rt:48:9
 returns : tie.Need-returns
 returns c = place-linear (c .before .args .strategy) (c .before .args .i) (c .before .args .n) (c .if1 .taken)
 
--- src/lib.rt:51:9
 returns-2 : tie.Need-returns-2
 returns-2 c = search needs
 
--- src/lib.rt:53:8
 add-if3 : tie.Need-add-if3
 add-if3 c = search needs
 
--- src/lib.rt:53:32
 add-result : tie.Need-add-result
 add-result c = search needs
 
--- src/lib.rt:44:1
 returns-3 : tie.Need-returns-3
 returns-3 c = place-wraps (c .before .before .before .args .strategy) (c .before .before .before .args .i) (c .before .before .before .args .n) (c .before .before .if1 .left) (c .if3 .taken)
 
--- src/lib.rt:44:1
 returns-4 : tie.Need-returns-4
 returns-4 c = place-next (c .before .before .before .args .strategy) (c .before .before .before .args .i) (c .before .before .before .args .n) (c .before .before .if1 .left) (c .if3 .left) (omega arith)
 

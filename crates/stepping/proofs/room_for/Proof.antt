@@ -8,39 +8,30 @@ use Rattle.stepping.proofs.room_for.Lts as lts
 use Rattle.lists.proofs.next_number.Reads as next-number-reads
 use Rattle.octets.proofs.byte.Reads as byte-reads
 
--- src/lib.rt:61:19
 sub-slots : tie.Need-sub-slots
 sub-slots c = search needs
 
--- src/lib.rt:62:16
 byte-requires : tie.Need-byte-requires
 byte-requires c κs = search needs
 
--- src/lib.rt:62:33
 byte-requires-2 : tie.Need-byte-requires-2
 byte-requires-2 c κs = search needs
 
--- src/lib.rt:62:16
 add-used : tie.Need-add-used
 add-used c = search needs
 
--- src/lib.rt:62:50
 byte-requires-3 : tie.Need-byte-requires-3
 byte-requires-3 c κs = search needs
 
--- src/lib.rt:62:16
 add-used-2 : tie.Need-add-used-2
 add-used-2 c = search needs
 
--- src/lib.rt:63:8
 add-if1 : tie.Need-add-if1
 add-if1 c = search needs
 
--- src/lib.rt:63:20
 add-if1-2 : tie.Need-add-if1-2
 add-if1-2 c = search needs
 
--- src/lib.rt:64:9
 returns : tie.Need-returns
 returns c =
     let e₁ = c .before .before .before .byte .ensures .0 in
@@ -50,15 +41,12 @@ returns c =
     let a = s .args in
     room-slots (a .pool .now) (a .n) (omega (arith, c .if1 .taken))
 
--- src/lib.rt:66:8
 next-number-requires : tie.Need-next-number-requires
 next-number-requires c κs = search needs
 
--- src/lib.rt:66:8
 add-if2 : tie.Need-add-if2
 add-if2 c = search needs
 
--- src/lib.rt:67:9
 returns-2 : tie.Need-returns-2
 returns-2 c =
     let e₁ = c .before .before .before .before .before .byte .ensures .0 in
@@ -68,7 +56,6 @@ returns-2 c =
     let a = s .args in
     room-numbers (a .pool .now) (a .n) (omega (arith, c .before .before .if1 .left)) (omega (arith, c .if2 .taken, c .before .next-number .ensures .0))
 
--- src/lib.rt:57:1
 returns-3 : tie.Need-returns-3
 returns-3 c =
     let e₁ = c .before .before .before .before .before .byte .ensures .0 in

@@ -9,35 +9,27 @@ use Rattle.stepping.proofs.settle.Lts as lts
 use Rattle.adopting.proofs.free_base.Reads as free-base-reads
 use Rattle.offspring.proofs.place_children.Reads as place-children-reads
 
--- src/lib.rt:91:18
 sub-slots : tie.Need-sub-slots
 sub-slots c = search needs
 
--- src/lib.rt:92:5
 free-base-requires : tie.Need-free-base-requires
 free-base-requires c κs = search needs
 
--- src/lib.rt:93:5
 place-children-requires : tie.Need-place-children-requires
 place-children-requires c κs = search needs
 
--- src/lib.rt:73:1
 same-length : tie.Need-same-length
 same-length c = search needs
 
--- src/lib.rt:73:1
 same-length-2 : tie.Need-same-length-2
 same-length-2 c = search needs
 
--- src/lib.rt:73:1
 same-length-3 : tie.Need-same-length-3
 same-length-3 c = search needs
 
--- src/lib.rt:73:1
 same-length-4 : tie.Need-same-length-4
 same-length-4 c = search needs
 
--- src/lib.rt:73:1
 returns : tie.Need-returns
 returns c =
     let a = c .before .before .before .before .before .before .before .before .before .before .before .before .before .before .before .before .before .before .before .before .before .before .before .args in

@@ -20,23 +20,18 @@ use Rattle.octets.proofs.byte.Reads as byte-reads
 use Rattle.slots.proofs.get_sheet.Reads as get-sheet-reads
 use Rattle.stepping.proofs.branch.Reads as branch-reads
 
--- src/lib.rt:148:8
 byte-requires : tie.Need-byte-requires
 byte-requires c κs = search needs
 
--- src/lib.rt:149:9
 same-length : tie.Need-same-length
 same-length c = search needs
 
--- src/lib.rt:149:9
 returns : tie.Need-returns
 returns c = out-none (c .before .before .before .before .before .before .before .before .before .args .book .now) (c .before .before .before .before .before .before .before .before .before .args .pool .now) (c .before .before .before .before .before .before .before .before .before .args .kind) (c .before .before .before .before .before .before .before .before .before .args .number) (sym (c .before .byte .ensures .0) ∙ c .if1 .taken)
 
--- src/lib.rt:151:13
 byte-requires-2 : tie.Need-byte-requires-2
 byte-requires-2 c κs = search needs
 
--- src/lib.rt:152:5
 get-sheet-requires : tie.Need-get-sheet-requires
 get-sheet-requires c κs =
     let s = c .before .before .before .before .before .before .before .before .before .before .before .before .before in
@@ -45,11 +40,9 @@ get-sheet-requires c κs =
     let j = c .before .before .byte2 .ensures .0 in
     (subst (λ x. 208 + 2128 * x + 2128 ≤ length (a .pool .now)) (sym j) (first-inside (a .book .now) (a .pool .now) (a .kind) (a .number) some (s .pre .0)), s .pre .1 .0)
 
--- src/lib.rt:153:31
 byte-requires-3 : tie.Need-byte-requires-3
 byte-requires-3 c κs = search needs
 
--- src/lib.rt:153:11
 evaluate-form-requires : tie.Need-evaluate-form-requires
 evaluate-form-requires c κs =
     let s = c .before .before .before .before .before .before .before .before .before .before .before .before .before .before .before .before .before .before .before .before .before in
@@ -59,11 +52,9 @@ evaluate-form-requires c κs =
     let l = subst (λ x. Loaded L (part (208 + 2128 * x) 2128 (a .pool .now)) (c .before .before .before .before .before .before .before .get-sheet .last .1 .1 .0)) j (c .before .before .before .before .before .before .before .get-sheet .ensures) in
     (basis (a .book .now) (a .pool .now) (s .pre .0) _ _ _ _ (on-base (a .book .now) (a .pool .now) (a .kind) (a .number) some _ l (s .pre .0)), (s .pre .1 .1 .1 .0, s .pre .1 .1 .1 .1))
 
--- src/lib.rt:155:20
 enum-told : tie.Need-enum-told
 enum-told c = search needs
 
--- src/lib.rt:155:13
 finish-requires : tie.Need-finish-requires
 finish-requires c κs =
     let s = c .before .before .before .before .before .before .before .before .before .before .before .before .before .before .before .before .before .before .before .before .before .before .before .before .before .before .before .before .before in
@@ -72,11 +63,9 @@ finish-requires c κs =
     let j = c .before .before .before .before .before .before .before .before .before .before .before .before .before .before .before .before .before .before .byte2 .ensures .0 in
     omega (arith, first-inside (a .book .now) (a .pool .now) (a .kind) (a .number) some (s .pre .0))
 
--- src/lib.rt:158:19
 enum-known-q : tie.Need-enum-known-q
 enum-known-q c = search needs
 
--- src/lib.rt:158:31
 branch-requires : tie.Need-branch-requires
 branch-requires c κs =
     let s = c .before .before .before .before .before .before .before .before .before .before .before .before .before .before .before .before .before .before .before .before .before .before .before .before .before .before .before .before .before .before .before .before .before .before in
@@ -92,23 +81,18 @@ branch-requires c κs =
       (omega (arith, e .kept .1 .1 .1 .1 .1 .1 .0, s .pre .1 .1 .1 .0), (omega (arith, e .kept .1 .1 .1 .1 .1 .1 .1 .0, s .pre .1 .1 .1 .1), s .pre .1 .1 .0 ∙ sym (s .pre .1 .0) ∙ sym (c .before .before .before .before .before .before .before .before .before .before .before .before .before .before .before .before .before .before .before .before .get-sheet .kept .1 .1 .0))),
     )
 
--- src/lib.rt:135:1
 same-length-2 : tie.Need-same-length-2
 same-length-2 c = search needs
 
--- src/lib.rt:135:1
 same-length-3 : tie.Need-same-length-3
 same-length-3 c = search needs
 
--- src/lib.rt:135:1
 same-length-4 : tie.Need-same-length-4
 same-length-4 c = search needs
 
--- src/lib.rt:135:1
 same-length-5 : tie.Need-same-length-5
 same-length-5 c = search needs
 
--- src/lib.rt:135:1
 returns-2 : tie.Need-returns-2
 returns-2 c =
     let s = c .before .before .before .before .before .before .before .before .before .before .before .before .before .before .before .before .before .before .before .before .before .before .before .before .before .before .before .before .before .before .before .before in
@@ -119,27 +103,21 @@ returns-2 c =
     let v = subst (λ x. Evaluated (a .book .now) x L (c .before .before .before .before .before .before .before .before .before .before .before .before .before .before .before .before .before .before .get-sheet .last .1 .1 .0) (c .before .before .before .before .before .before .before .before .before .before .evaluate-form .result) (c .before .before .before .before .before .before .before .before .before .before .evaluate-form .last .1 .1 .1 .1 .1 .1 .0)) (c .before .before .before .before .before .before .before .before .before .before .before .before .before .before .byte3 .ensures .0) (c .before .before .before .before .before .before .before .before .before .before .evaluate-form .ensures) in
     out-done (a .book .now) (a .pool .now) (a .kind) (a .number) some _ l (c .before .before .before .before .before .before .before .before .before .before .evaluate-form .last .1 .1 .1 .1 .1 .1 .0) (c .before .before .before .before .before .before .before .before .before .before .evaluate-form .result) v (c .before .before .before .before .enum-told .given .1) _ (c .before .before .finish .ensures)
 
--- src/lib.rt:135:1
 same-length-6 : tie.Need-same-length-6
 same-length-6 c = search needs
 
--- src/lib.rt:135:1
 same-length-7 : tie.Need-same-length-7
 same-length-7 c = search needs
 
--- src/lib.rt:135:1
 same-length-8 : tie.Need-same-length-8
 same-length-8 c = search needs
 
--- src/lib.rt:135:1
 same-length-9 : tie.Need-same-length-9
 same-length-9 c = search needs
 
--- src/lib.rt:135:1
 same-length-10 : tie.Need-same-length-10
 same-length-10 c = search needs
 
--- src/lib.rt:135:1
 returns-3 : tie.Need-returns-3
 returns-3 c =
     let s = c .before .before .before .before .before .before .before .before .before .before .before .before .before .before .before .before .before .before .before .before .before .before .before .before .before .before .before .before .before .before .before .before .before .before .before .before .before .before .before .before .before .before .before in

@@ -9,35 +9,27 @@ use Rattle.heads.proofs.clear_slot.Reads as clear-slot-reads
 use Rattle.heads.proofs.pop.Reads as pop-reads
 use Rattle.takings.proofs.copy_slot.Reads as copy-slot-reads
 
--- src/lib.rt:41:27
 mul-copy-slot : tie.Need-mul-copy-slot
 mul-copy-slot c = search needs
 
--- src/lib.rt:41:21
 add-copy-slot : tie.Need-add-copy-slot
 add-copy-slot c = search needs
 
--- src/lib.rt:41:5
 copy-slot-requires : tie.Need-copy-slot-requires
 copy-slot-requires c κs = search needs
 
--- src/lib.rt:42:5
 clear-slot-requires : tie.Need-clear-slot-requires
 clear-slot-requires c κs = search needs
 
--- src/lib.rt:43:5
 pop-requires : tie.Need-pop-requires
 pop-requires c κs = search needs
 
--- src/lib.rt:37:1
 same-length : tie.Need-same-length
 same-length c = search needs
 
--- src/lib.rt:37:1
 same-length-2 : tie.Need-same-length-2
 same-length-2 c = search needs
 
--- src/lib.rt:37:1
 returns : tie.Need-returns
 returns c = (popped-behind (c .before .before .before .before .before .before .before .before .before .before .before .before .before .before .before .args .j) _ _ _ (c .before .before .before .before .before .before .clear-slot .ensures) (c .before .before .pop .ensures), c .before .before .before .before .before .before .before .before .before .before .copy-slot .ensures)
 

@@ -13,29 +13,24 @@ use Rattle.openings.proofs.right_length.Reads as right-length-reads
 use Rattle.poolcheck.proofs.pool_sound.Reads as pool-sound-reads
 use Rattle.takings.proofs.take_sound.Reads as take-sound-reads
 
--- src/lib.rt:87:9
 right-length-requires : tie.Need-right-length-requires
 right-length-requires c κs = search needs
 
--- src/lib.rt:88:9
 first-refusal-requires : tie.Need-first-refusal-requires
 first-refusal-requires c κs = search needs
 
--- src/lib.rt:90:9
 returns : tie.Need-returns
 returns c =
     let s = c .before .before .before .before .before .before in
     let a = s .args in
     rest-unfit (a .book .now) (a .pool .now) (a .list) (a .out .now) _ (c .before .first-refusal .ensures ∙ ap (λ r. firstRefusal r (ltb (a .list) 2)) (c .before .before .right-length .ensures)) (c .if1 .taken)
 
--- src/lib.rt:92:8
 pool-sound-requires : tie.Need-pool-sound-requires
 pool-sound-requires c κs =
     let s = c .before .before .before .before .before .before .before in
     let a = s .args in
     right (a .book .now) (a .pool .now) (a .list) (a .out .now) _ (c .before .before .first-refusal .ensures ∙ ap (λ r. firstRefusal r (ltb (a .list) 2)) (c .before .before .before .right-length .ensures)) (c .before .if1 .left)
 
--- src/lib.rt:93:9
 take-sound-requires : tie.Need-take-sound-requires
 take-sound-requires c κs =
     let s = c .before .before .before .before .before .before .before .before .before .before .before in
@@ -44,26 +39,21 @@ take-sound-requires c κs =
     let z = c .before .before .before .before .before .if1 .left in
     (ready (a .book .now) (a .pool .now) (a .list) (a .out .now) _ e z _ (c .before .before .before .pool-sound .ensures) (s .pre) (λ j. c .before .before .before .before .before .before .before .before .before .slice-known .given j .fits) (c .before .before .if2 .taken), known-list (a .book .now) (a .pool .now) (a .list) (a .out .now) _ e z)
 
--- src/lib.rt:93:9
 same-length : tie.Need-same-length
 same-length c = search needs
 
--- src/lib.rt:93:9
 same-length-2 : tie.Need-same-length-2
 same-length-2 c = search needs
 
--- src/lib.rt:93:9
 returns-2 : tie.Need-returns-2
 returns-2 c =
     let s = c .before .before .before .before .before .before .before .before .before .before .before .before .before .before .before .before in
     let a = s .args in
     rest-going (a .book .now) (a .pool .now) (a .list) (a .out .now) _ (c .before .before .before .before .before .before .before .before .before .before .before .first-refusal .ensures ∙ ap (λ r. firstRefusal r (ltb (a .list) 2)) (c .before .before .before .before .before .before .before .before .before .before .before .before .right-length .ensures)) (c .before .before .before .before .before .before .before .before .before .before .if1 .left) _ (c .before .before .before .before .before .before .before .before .pool-sound .ensures) (c .before .before .before .before .before .before .before .if2 .taken) _ _ _ (c .before .before .before .before .take-sound .ensures)
 
--- src/lib.rt:83:1
 same-length-3 : tie.Need-same-length-3
 same-length-3 c = search needs
 
--- src/lib.rt:83:1
 returns-3 : tie.Need-returns-3
 returns-3 c =
     let s = c .before .before .before .before .before .before .before .before .before in

@@ -9,51 +9,40 @@ use Rattle.takings.proofs.take_sound.Lts as lts
 use Rattle.takings.proofs.give.Reads as give-reads
 use Rattle.words.proofs.byte.Reads as byte-reads
 
--- src/lib.rt:56:13
 add-j : tie.Need-add-j
 add-j c = search needs
 
--- src/lib.rt:57:19
 add-byte : tie.Need-add-byte
 add-byte c = search needs
 
--- src/lib.rt:57:8
 byte-requires : tie.Need-byte-requires
 byte-requires c κs = search needs
 
--- src/lib.rt:58:9
 same-length : tie.Need-same-length
 same-length c = search needs
 
--- src/lib.rt:58:9
 returns : tie.Need-returns
 returns c =
     let s = c .before .before .before .before .before in
     take-empty (s .args .pool .now) (s .pre .0) (s .args .list) (s .args .out .now) (s .pre .1) (rw (c .before .byte .ensures .0) at (c .if1 .taken))
 
--- src/lib.rt:61:9
 same-length-2 : tie.Need-same-length-2
 same-length-2 c = search needs
 
--- src/lib.rt:61:9
 returns-2 : tie.Need-returns-2
 returns-2 c =
     let s = c .before .before .before .before .before .before in
     take-short (s .args .pool .now) (s .pre .0) (s .args .list) (s .args .out .now) (s .pre .1) (rw (c .before .before .byte .ensures .0) at (c .before .if1 .left)) (c .if2 .taken)
 
--- src/lib.rt:63:29
 mul-byte : tie.Need-mul-byte
 mul-byte c = search needs
 
--- src/lib.rt:63:24
 add-byte-2 : tie.Need-add-byte-2
 add-byte-2 c = search needs
 
--- src/lib.rt:63:13
 byte-requires-2 : tie.Need-byte-requires-2
 byte-requires-2 c κs = search needs
 
--- src/lib.rt:64:5
 give-requires : tie.Need-give-requires
 give-requires c κs =
     let s = c .before .before .before .before .before .before .before .before .before .before in
@@ -62,15 +51,12 @@ give-requires c κs =
     let l = s .pre .0 .long in
     ((omega arith, omega arith), ((omega arith, omega arith), c .before .before .before .before .if2 .left))
 
--- src/lib.rt:52:1
 same-length-3 : tie.Need-same-length-3
 same-length-3 c = search needs
 
--- src/lib.rt:52:1
 same-length-4 : tie.Need-same-length-4
 same-length-4 c = search needs
 
--- src/lib.rt:52:1
 returns-3 : tie.Need-returns-3
 returns-3 c =
     let s = c .before .before .before .before .before .before .before .before .before .before .before .before .before .before .before in
