@@ -9,7 +9,7 @@
  * The book is only read.
  *
  * Stack: 2 KB are enough for chase_open, 3 KB for chase_take, 24 KB for chase_step and chase_run (the most that
- * tests/calls/stack measured: 1,120, 2,568, 23,088 and 23,120 bytes).
+ * tests/calls/stack measured: 1,120, 2,568, 21,664 and 21,696 bytes).
  *
  * Refusals, lower numbers checked first:
  *    1  book over CHASE_BOOK_MOST bytes
