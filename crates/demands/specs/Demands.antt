@@ -15,8 +15,8 @@ use Rattle.demands.specs.Worlds.{Call, World, Played, begun, Empty}
 use Rattle.demands.specs.Demand3.{Demand3, demand-3, nothing-keeps-them}
 
 -- 1. Every public call accepts all bytes and numbers and has an outcome: a promise is the graph of a function. If its answer is not 0
--- then no lent byte differs from before. A run either finds a book without fault, a sound pool and a known bound, or it is refused by 1
--- to 13, made no step and changed no byte.
+-- then no lent byte differs from before. A run finds a book without fault, a pool that is sound for it and a known bound, so that
+-- none of 1 to 13 holds; or it makes no step and changes no byte.
 pub record Demand1 (book pool : Bytes) : Type 0 where
   pub opening : (scheduler strategy : ℕ) → ((answer : ℕ) × (after : Bytes) × OpenPromise book pool scheduler strategy answer after)
       × ((openCall book pool scheduler strategy .answer ≡ 0) ⊎ (openCall book pool scheduler strategy .pool ≡ pool))

@@ -60,7 +60,7 @@ use Rattle.numbers.proofs.next as next
 use Rattle.numbers.proofs.next.Statement as stated
 use Rattle.numbers.proofs.next.Code as code
 
--- the struct's type, over the signature's lifetimes
+-- The reader's type at the lifetime that is passed.
 abbrev B : Lfts 1 → RattleType
 B κs = T.the-row (namedLft 1 0 tt κs)
 
@@ -68,7 +68,7 @@ abbrev stayed : Stays (next.ended .signature .params) (next.ended .kept)
 stayed = (stay-none B yes, tt)
 
 module _ {M : Type 1} (𝓤 : URA M) (H : Heap 𝓤) (A : Atoms 𝓤) (mem : Memory → SProp 𝓤) (run : Routine → Fun 𝓤) where
-  -- the contract that the proof cites
+  -- What is known of `number_at`.
   abbrev NumberAt : Contract 𝓤
   NumberAt = tripleOf 𝓤 H A step.signature (step.spec 𝓤 H A mem run)
 
@@ -76,7 +76,7 @@ module _ {M : Type 1} (𝓤 : URA M) (H : Heap 𝓤) (A : Atoms 𝓤) (W : Given
   abbrev mach : Val
   mach = T′.lowered d
 
-  -- the machine value of src
+  -- The book as the machine has it.
   abbrev v : Val
   v = sliceVal (d .book .ptr) (length (d .book .now))
 
@@ -89,7 +89,7 @@ module _ {M : Type 1} (𝓤 : URA M) (H : Heap 𝓤) (A : Atoms 𝓤) (W : Given
   abbrev Own : Fml
   Own = B (κ, tt) .own d (mach ∷ [])
 
-  -- the struct's type and laws, and d's fields' values
+  -- The reader's type, its laws, and its two fields.
   abbrev D : Declared
   D = T.the-type (namedLft 1 0 tt (κ, tt))
 
@@ -99,7 +99,7 @@ module _ {M : Type 1} (𝓤 : URA M) (H : Heap 𝓤) (A : Atoms 𝓤) (W : Given
   abbrev vd : Values (D .parts)
   vd = (d .book, (d .at, tt))
 
-  -- what the callee is passed
+  -- The book and the place, handed to `number_at`.
   abbrev passed : Vals step.signature (κ, tt)
   passed = (v ∷ [], (vint w64 (d .at) ∷ [], tt))
 
@@ -109,17 +109,17 @@ module _ {M : Type 1} (𝓤 : URA M) (H : Heap 𝓤) (A : Atoms 𝓤) (W : Given
   asked : ent 𝓤 (onEntry 𝓤 H A step.signature (κ, tt) (q, tt) (d .book, (d .at, tt)) passed) (NumberAt 𝓤 H A mem run .pre to)
   asked = qed W ((‵ (flft κ q) ⊛ ‵ ftrue) ∷ ‵ (owns (ShrSlice (named 0) κ u8 ∷ usize ∷ []) (d .book, (d .at, tt)) passed) ∷ []) ∵ join ! $ frame ! $ done !
 
-  -- what the struct owns gives what the callee asks, and is kept
+  -- A reader has what `number_at` asks for, and still is a reader.
   apart : d .at < 2 ^ 64 → ent 𝓤 (onEntry 𝓤 H A next.signature (κ, tt) (q, tt) (d, tt) (mach ∷ [], tt)) (sep 𝓤 (NumberAt 𝓤 H A mem run .pre to) (sem 𝓤 H A Own))
   apart fits =
       qed W ((‵ (flft κ q) ⊛ ‵ ftrue) ∷ ‵ (owns (B (κ, tt) ∷ []) (d, tt) (mach ∷ [], tt)) ∷ []) ∵
       move ! (1 ∷ []) $ fsplit ! $ move ! (1 ∷ []) $ drop ! $ use1 W (‵ Own ⊛ ‵ Own) (LL.copy D (T′.the-copy (namedLft 1 0 tt (κ, tt))) 𝓤 H A W .twice d (mach ∷ [])) $ split ! $
       use1 W (given (mach ∷ [] ≡ mach ∷ []) (‵ (all-own (D .parts) L vd))) (own-open 𝓤 H A W D L vd mach) $ learn ! (λ _. use1 W (‵ (ownAt (D .parts) L 0 (d .book)) ⊛ ‵ (rest (D .parts) L 0 vd)) (own-out 𝓤 H A W (D .parts) L 0 vd) $ split ! $
-      -- [what src owns; what at owns; what the struct owns; the token]
+      -- In front now: the book, the place, the reader kept for the exit, the token.
       move ! (1 ∷ []) $ drop ! $ nothing ! $ owned ! usize (Is usize) (uint-makes 𝓤 H A W w64) (d .at) _ (refl, fits) $ fjoin ! $ move ! (1 ∷ 0 ∷ []) $ fjoin ! $
       move ! (2 ∷ 0 ∷ []) $ use2 W (raw (NumberAt 𝓤 H A mem run .pre to)) asked $ frame ! $ done !)
 
-  -- of the callee's `ensured`, the clause alone: it has no `&mut`, so what is said of last values is dropped
+  -- What `number_at` says of its answer; nothing was lent to be changed.
   said : (r : Value) → ent 𝓤 (ensured 𝓤 H A step.ended (step.clauses 𝓤 H A mem run) (κ, tt) (d .book, (d .at, tt)) tt r) (fact 𝓤 (r ≡ found))
   said r = exE 𝓤 _ (λ ws. snd∗ 𝓤 (sem 𝓤 H A (lasts step.ended (κ, tt) (d .book, (d .at, tt)) ws)) (fact 𝓤 (r ≡ found)))
 
@@ -140,7 +140,7 @@ module _ {M : Type 1} (𝓤 : URA M) (H : Heap 𝓤) (A : Atoms 𝓤) (W : Given
         calls-at ! fm (NumberAt 𝓤 H A mem run) known to (and-then ! (load ! (from ! (stop !)) (look ! 4 refl)) (and-then ! (load ! (from ! (stop !)) (look ! 2 refl)) (no-more !))) (λ u.
         use1 W (later (some (λ (r : Value). ((‵ (flft κ q) ⊛ ‵ ftrue) ⊛ ‵ (S.the-row .own r (u ∷ []))) ⊛ raw (ensured 𝓤 H A step.ended (step.clauses 𝓤 H A mem run) (κ, tt) (d .book, (d .at, tt)) tt r)))) (id⊢ 𝓤 _) $ await ! tt $ pick ! (λ r.
         split ! $ move ! (1 ∷ []) $ use1 W (raw (fact 𝓤 (r ≡ found))) (said r) $ heard ! (r ≡ found) (λ e. split ! $ move ! (1 ∷ []) $
-        -- [the result; the token; what the struct owns; _3; …; _2; …; _1; …; room for _0; …]
+        -- In front now: the answer, the token, the reader; then locals 3, 2 and 1, and room for the answer.
         peeks ! S.the-row (Is S.the-row) (shows 𝓤 H A S.the-row) r (u ∷ []) (λ is.
         land ! (from ! (stop !)) (init ! 9 refl (EL.lawful S.the-type S′.the-laws 𝓤 H A W tt .typed r _ is .0)) $
         returns ! (look ! 9 refl) $ forget ! 3 refl $ forget ! 5 refl $ forget ! 7 refl $ forget ! 9 refl $

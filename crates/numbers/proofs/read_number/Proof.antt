@@ -59,7 +59,7 @@ use Rattle.numbers.proofs.read_number as first
 use Rattle.numbers.proofs.read_number.Statement as stated
 use Rattle.numbers.proofs.read_number.Code as code
 
--- the struct's type, over the signature's lifetimes
+-- The reader's type at the lifetime that is passed.
 abbrev B : Lfts 1 → RattleType
 B κs = T.the-row (namedLft 1 0 tt κs)
 
@@ -67,7 +67,7 @@ abbrev stayed : Stays (first.ended .signature .params) (first.ended .kept)
 stayed = (stay-none-slice (0 ∷ []) tt (plain (λ _. u8)) yes, (stay-none (λ _. usize) yes, tt))
 
 module _ {M : Type 1} (𝓤 : URA M) (H : Heap 𝓤) (A : Atoms 𝓤) (mem : Memory → SProp 𝓤) (run : Routine → Fun 𝓤) where
-  -- the contracts that the proof cites
+  -- What is known of `reader_at` and of `next`.
   abbrev New : Contract 𝓤
   New = tripleOf 𝓤 H A new.signature (new.spec 𝓤 H A mem run)
 
@@ -75,14 +75,14 @@ module _ {M : Type 1} (𝓤 : URA M) (H : Heap 𝓤) (A : Atoms 𝓤) (mem : Mem
   Next = tripleOf 𝓤 H A next.signature (next.spec 𝓤 H A mem run)
 
 module _ {M : Type 1} (𝓤 : URA M) (H : Heap 𝓤) (A : Atoms 𝓤) (W : Given 𝓤 H A) (mem : Memory → SProp 𝓤) (run : Routine → Fun 𝓤) (κ : Lft) (q : Share) (s : RefT (List ℕ)) (n : ℕ) (ok : n < 2 ^ 64) where
-  -- the machine value that s has
+  -- The book as the machine has it.
   abbrev v : Val
   v = sliceVal (s .ptr) (length (s .now))
 
   abbrev found : Value
   found = value (number (now s) n)
 
-  -- the struct's type as a local of a body has it
+  -- The lifetime as a local has it.
   abbrev αᵉ : NamedLft
   αᵉ = record { mir = erased; lft = κ }
 
@@ -92,7 +92,7 @@ module _ {M : Type 1} (𝓤 : URA M) (H : Heap 𝓤) (A : Atoms 𝓤) (W : Given
   abbrev Own : Fml
   Own = ShrSlice (named 0) κ u8 .own s (v ∷ [])
 
-  -- the call of `new`: what it is passed, what it asks, and what is known of its result
+  -- `reader_at`: given the book and the place, of which a copy stays here; and what it says of the reader.
   abbrev to-new : New 𝓤 H A mem run .Ghost
   to-new = (((κ, tt), (q, tt), tt, (s, (n, tt)), (v ∷ [], (vint w64 n ∷ [], tt))), tt)
 
@@ -105,7 +105,7 @@ module _ {M : Type 1} (𝓤 : URA M) (H : Heap 𝓤) (A : Atoms 𝓤) (W : Given
   new-said : (r : Reader) → ent 𝓤 (ensured 𝓤 H A new.ended (new.clauses 𝓤 H A mem run) (κ, tt) (s, (n, tt)) tt r) (fact 𝓤 ((r .book ≡ s) × (r .at ≡ n)))
   new-said r = exE 𝓤 _ (λ ws. snd∗ 𝓤 (sem 𝓤 H A (lasts new.ended (κ, tt) (s, (n, tt)) ws)) (fact 𝓤 ((r .book ≡ s) × (r .at ≡ n))))
 
-  -- the call of `next`, at the struct r with the machine value u
+  -- `next`, given that reader.
   abbrev to-next : Reader → Val → Next 𝓤 H A mem run .Ghost
   to-next r u = (((κ, tt), (q, tt), tt, (r, tt), (u ∷ [], tt)), tt)
 
@@ -130,14 +130,14 @@ module _ {M : Type 1} (𝓤 : URA M) (H : Heap 𝓤) (A : Atoms 𝓤) (W : Given
         calls-at ! fm (New 𝓤 H A mem run) known-new to-new (and-then ! (load ! (from ! (stop !)) (look ! 6 refl)) (and-then ! (load ! (from ! (stop !)) (look ! 4 refl)) (no-more !))) (λ u.
         use1 W (later (some (λ (r : Reader). ((‵ (flft κ q) ⊛ ‵ ftrue) ⊛ ‵ (B (κ, tt) .own r (u ∷ []))) ⊛ raw (ensured 𝓤 H A new.ended (new.clauses 𝓤 H A mem run) (κ, tt) (s, (n, tt)) tt r)))) (id⊢ 𝓤 _) $ await ! tt $ pick ! (λ r.
         split ! $ move ! (1 ∷ []) $ use1 W (raw (fact 𝓤 ((r .book ≡ s) × (r .at ≡ n)))) (new-said r) $ heard ! ((r .book ≡ s) × (r .at ≡ n)) (λ e. split ! $ move ! (1 ∷ []) $
-        -- [what the reader owns; the token; what s owns; room for _3; …; _2; …; _1; …; room for _0; …]
+        -- In front now: the reader, the token, the book; then room for local 3, locals 2 and 1, room for the answer.
         peeks ! (B (κ, tt)) (Is (B (κ, tt))) (shows 𝓤 H A (B (κ, tt))) r (u ∷ []) (λ is.
         land ! (from ! (stop !)) (init ! 3 refl (LL.lawful (T.the-type αᵉ) (T′.the-laws αᵉ) 𝓤 H A W .typed r _ is .0)) $
         use2 W (raw (Next 𝓤 H A mem run .pre (to-next r u))) (goes-next r u) $
         calls-at ! fm (Next 𝓤 H A mem run) known-next (to-next r u) (and-then ! (load ! (from ! (stop !)) (look ! 2 refl)) (no-more !)) (λ u′.
         use1 W (later (some (λ (t : Value). ((‵ (flft κ q) ⊛ ‵ ftrue) ⊛ ‵ (S.the-row .own t (u′ ∷ []))) ⊛ raw (ensured 𝓤 H A next.ended (next.clauses 𝓤 H A mem run) (κ, tt) (r, tt) tt t)))) (id⊢ 𝓤 _) $ await ! tt $ pick ! (λ t.
         split ! $ move ! (1 ∷ []) $ use1 W (raw (fact 𝓤 (t ≡ value (number (now (r .book)) (r .at))))) (next-said r t) $ heard ! (t ≡ value (number (now (r .book)) (r .at))) (λ e′. split ! $ move ! (1 ∷ []) $
-        -- [the result; the token; what s owns; _3; …; _2; …; _1; …; room for _0; …]
+        -- In front now: the answer, the token, the book; then locals 3, 2 and 1, and room for the answer.
         peeks ! S.the-row (Is S.the-row) (shows 𝓤 H A S.the-row) t (u′ ∷ []) (λ is′.
         land ! (from ! (stop !)) (init ! 9 refl (EL.lawful S.the-type S′.the-laws 𝓤 H A W tt .typed t _ is′ .0)) $
         returns ! (look ! 9 refl) $ forget ! 3 refl $ forget ! 5 refl $ forget ! 7 refl $ forget ! 9 refl $ move ! (9 ∷ 10 ∷ []) $ free1 ! $ move ! (7 ∷ 8 ∷ []) $ free1 ! $ move ! (5 ∷ 6 ∷ []) $ free1 ! $ move ! (3 ∷ 4 ∷ []) $ free1 ! $ free0 ! $
