@@ -3,52 +3,14 @@
 
 use crate::draft::*;
 use crate::rng::Rng;
-use reference::check::{check_traced, Fault};
+use reference::check::{check_traced, Fault, NUMBERS};
 use reference::limits::BOOK_BYTES;
 use reference::Wanted::{self, *};
 
 /// A refusal at a kind of number.
 pub type Target = (u32, Wanted);
 
-/// The numbers of a book, in byte order, that a book may end before (2).
-const ENDS: [Wanted; 34] = [
-    Mark,
-    Version,
-    Constants,
-    Functions,
-    Relations,
-    ConstantWitnesses,
-    FunctionWitnesses,
-    FunctionArity,
-    RelationArity,
-    WitnessArity,
-    Sequents,
-    Free,
-    Body,
-    Disjuncts,
-    Origins,
-    Literals,
-    OriginKind,
-    ConstantWitness,
-    FunctionWitness,
-    ConstantArguments,
-    FunctionArguments,
-    OriginArgument,
-    BodyLiteral,
-    HeadLiteral,
-    BodyRelation,
-    HeadRelation,
-    BodyTerm,
-    HeadTerm,
-    BodyVariable,
-    HeadVariable,
-    BodyConstant,
-    HeadConstant,
-    BodyFunction,
-    HeadFunction,
-];
-
-/// The other refusals of a book, at each kind of number that can have them.
+/// The refusals of a book but 2 and 8, at each kind of number that can have them.
 const OTHERS: [Target; 36] = [
     (1, Length),
     (3, Mark),
@@ -93,7 +55,7 @@ const DEEP: [Target; 2] = [(8, BodyFunction), (8, HeadFunction)];
 
 /// Every refusal of a book at every kind of number.
 pub fn targets() -> Vec<Target> {
-    let ends = ENDS.into_iter().map(|wanted| (2, wanted));
+    let ends = NUMBERS.iter().map(|&wanted| (2, wanted));
     ends.chain(OTHERS).chain(DEEP).collect()
 }
 

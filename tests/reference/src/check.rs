@@ -4,10 +4,23 @@
 use crate::book::*;
 use crate::limits::BOOK_BYTES;
 
-/// What a number of a book is there for. Counting refusals goes by these.
-#[derive(Clone, Copy, PartialEq, Eq, Hash, PartialOrd, Ord, Debug)]
-pub enum Wanted {
-    Length,
+/// The kinds of numbers of a book, in byte order, and the list of them.
+macro_rules! numbers {
+    ($($number:ident),*) => {
+        /// What a number of a book is there for. Counting refusals goes by these.
+        #[derive(Clone, Copy, PartialEq, Eq, Hash, PartialOrd, Ord, Debug)]
+        pub enum Wanted {
+            Length,
+            $($number,)*
+            End,
+        }
+
+        /// Every kind of number that a book may end before (2).
+        pub const NUMBERS: &[Wanted] = &[$(Wanted::$number),*];
+    };
+}
+
+numbers![
     Mark,
     Version,
     Constants,
@@ -41,9 +54,8 @@ pub enum Wanted {
     BodyConstant,
     HeadConstant,
     BodyFunction,
-    HeadFunction,
-    End,
-}
+    HeadFunction
+];
 
 /// Why a book is refused, and at which byte.
 #[derive(Clone, Copy, PartialEq, Eq, Debug)]
