@@ -22,7 +22,8 @@ use Rattle.slots.specs.Store.{viewBytes}
 use Rattle.slots.specs.Carry.{stored-image}
 use Rattle.enter.specs.Keep.{Carries}
 use Rattle.heads.specs.Writes.{slot-written}
-use Rattle.lists.specs.Header.{nextIn, next-in}
+use Rattle.poolparts.specs.Tests.{nextOf}
+use Rattle.lists.specs.Header.{next-in}
 use Rattle.lists.specs.Moves.{Imaged, Room, Forgotten, Joined, opens, cuts, shows-next}
 
 abbrev pub Freed : Limits → ℕ → Bytes → Bytes → Type 0
@@ -157,7 +158,7 @@ cut-one x = go (x .cut)
     go true = refl
     go false = refl
 
-pub child-adopted : (lim : Limits) (i : ℕ) (cut : Bool) (place n : ℕ) (w p p₁ p₂ : List ℕ) → n ≡ nextIn p
+pub child-adopted : (lim : Limits) (i : ℕ) (cut : Bool) (place n : ℕ) (w p p₁ p₂ : List ℕ) → n ≡ nextOf p
     → p₁ ≡ patched (208 + sizeOf lim * i) (viewBytes lim (viewOf lim (numbered w n place))) p → Joined i cut p₁ p₂ → Adopted lim i cut place w p p₂
 unfolding headSize sheetSize withPlaced done changed stored
 child-adopted lim i cut place n w p p₁ p₂ e q j s sh m now c f =

@@ -3,7 +3,7 @@
 use heads::clear_slot;
 use lists::forget;
 use lists::join;
-use lists::next_number;
+use poolparts::next_number;
 use slots::put_sheet;
 ghost use Prim.Native.Nat.{_+_, _*_, _≤_};
 ghost use lib.ListN.{length};

@@ -21,18 +21,13 @@ fn report(bytes: &[u8]) {
     io::write_all(STDOUT_FILENO, b"\n");
 }
 
-// The length that stands in front of a book.
-fn size(head: &[u8]) -> u64 {
-    words::num16(head, 0) + 65536 * words::byte(head, 2)
-}
-
 // The next book, if there is one, and its line.
 fn next(buf: &mut [u8]) -> bool {
     let mut head = [0u8; 4];
     if io::read_full(0, &mut head) < 4 {
         return false;
     }
-    let n = size(&head) as usize;
+    let n = words::num32(&head, 0) as usize;
     if buf.len() < n {
         return false;
     }

@@ -169,7 +169,7 @@ fn tell(head: &[u8], book: &mut [u8], slot: &mut [u8]) -> Record
 fn size(head: &[u8]) -> usize
     ensures { λ r. ⌜ r < 4294967296 ⌝ }
 {
-    (words::num16(head, 4) + 65536 * words::num16(head, 6)) as usize
+    words::num32(head, 4) as usize
 }
 
 // The next record of the input.

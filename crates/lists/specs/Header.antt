@@ -11,25 +11,23 @@ use lib.Seq.{take-take, take-all, length-take-le}
 use lib.Dec.{T, eqb}
 use Rattle.base.specs.Branch.{if}
 use Rattle.base.specs.Lists.{mem, keep, from}
-use Rattle.rules.specs.Reading.{Bytes, num}
+use Rattle.rules.specs.Reading.{Bytes}
 use Rattle.rules.specs.Sheet.{Limits}
 use Rattle.rules.specs.Pool.{used}
 use Rattle.rules.specs.Image.{part, listIn, poolIn, mostSlots}
+use Rattle.poolparts.specs.Tests.{nextOf}
 
 -- ---- the lists
 
 unfoldable pub inUse : Bytes → List ℕ
 inUse p = listIn 16 (getD p 12 0) p ++ (listIn 80 (getD p 13 0) p ++ listIn 144 (getD p 14 0) p)
 
-unfoldable pub nextIn : Bytes → ℕ
-nextIn p = num p 8 + 65536 * num p 10
-
 pub used-in : (lim : Limits) (p : Bytes) → inUse p ≡ used (poolIn lim p)
 unfolding inUse used poolIn
 used-in lim p = refl
 
-pub next-in : (lim : Limits) (p : Bytes) → nextIn p ≡ poolIn lim p .next
-unfolding nextIn poolIn
+pub next-in : (lim : Limits) (p : Bytes) → nextOf p ≡ poolIn lim p .next
+unfolding nextOf poolIn
 next-in lim p = refl
 
 -- A list is the front of its room.

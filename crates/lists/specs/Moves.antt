@@ -13,8 +13,9 @@ use Rattle.rules.specs.Image.{word, long, poolMark, poolHead, poolIn, poolBytes
 use Rattle.rules.specs.Step.{pushed, schedule}
 use Rattle.images.specs.Storable.{Octet, SmallLimits, StorableState, ByteState}
 use Rattle.images.specs.Pools.{pool-back}
+use Rattle.poolparts.specs.Tests.{nextOf}
 use Rattle.heads.specs.Lists.{Few, relisted, Popped, PushedBack, PushedFront, first-slot}
-use Rattle.lists.specs.Header.{unnamed, used-in, nextIn, next-in}
+use Rattle.lists.specs.Header.{unnamed, used-in, next-in}
 
 -- The bytes are the image of a state that an image can hold.
 pub record Imaged (lim : Limits) (s : State) (p : Bytes) : Type 0 where
@@ -71,7 +72,7 @@ module _ (lim : Limits) (s : State) (p : Bytes) (sh : Imaged lim s p) where
   scheduler-is = ap (λ (x : State). x .scheduler) back
 
 -- The next number, read off an image.
-pub shows-next : (lim : Limits) (s : State) (p : Bytes) → Imaged lim s p → nextIn p ≡ s .next
+pub shows-next : (lim : Limits) (s : State) (p : Bytes) → Imaged lim s p → nextOf p ≡ s .next
 shows-next lim s p sh = next-in lim p ∙ ap (λ (x : State). x .next) (back lim s p sh)
 
 -- The slots that no list names are the free ones.
@@ -85,10 +86,10 @@ shows-free lim s p sh = ap (λ (us : List ℕ). keep (λ i. not (mem i us)) (fro
 abbrev withNext : ℕ → Bytes → Bytes
 withNext n p = set (set (set (set p 8 (n % 65536 % 256)) 9 (n % 65536 / 256 % 256)) 10 (n / 65536 % 256)) 11 (n / 65536 / 256 % 256)
 
-pub counts-on : (p : Bytes) (n : ℕ) → n ≡ nextIn p → (p′ : Bytes) → p′ ≡ withNext (n + 1) p → CountedOn p p′
-unfolding poolBytes poolHead poolMark long word changed nextIn num
+pub counts-on : (p : Bytes) (n : ℕ) → n ≡ nextOf p → (p′ : Bytes) → p′ ≡ withNext (n + 1) p → CountedOn p p′
+unfolding poolBytes poolHead poolMark long word changed nextOf num
 counts-on p n e p′ o lim s h q =
-    let m : n ≡ s .next = e ∙ ap nextIn q ∙ omega arith in
+    let m : n ≡ s .next = e ∙ ap nextOf q ∙ omega arith in
     o ∙ ap₂ (λ (k : ℕ) (l : Bytes). withNext (k + 1) l) m q
 
 -- ---- the ways out

@@ -4,13 +4,13 @@ use heads::pop;
 use heads::push_back;
 use heads::push_front;
 use octets::byte;
-use octets::num16;
+use poolparts::next_number;
 ghost use mathlib.Core.Path.{_≡_};
 ghost use Prim.Native.Nat.{_+_, _≤_, _<_, min};
 ghost use lib.ListN.{length, getD};
 ghost use Rattle.base.specs.Lists.{mem};
 ghost use Rattle.rules.specs.Image.{listIn};
-ghost use Rattle.lists.specs.Header.{inUse, nextIn, LowestFree};
+ghost use Rattle.lists.specs.Header.{inUse, LowestFree};
 ghost use Rattle.lists.specs.Moves.{CountedOn, Finished, Forgotten, Enlisted, Joined};
 
 // How many slots the list with its count at a place has: what is counted, or its room if that is less.
@@ -65,13 +65,6 @@ pub fn lowest_free(p: &[u8], n: usize) -> usize
         }
     }
     n
-}
-
-// The next model number.
-pub fn next_number(p: &[u8]) -> u64
-    ensures { λ r. ⌜ (r ≡ nextIn (now (p .entry))) × (r < 4294967296) ⌝ }
-{
-    num16(p, 8) + 65536 * num16(p, 10)
 }
 
 // The next model number is one more.

@@ -5,6 +5,7 @@ use sheetcheck::sheet_sound;
 use sheetparts::zeros;
 use words::byte;
 use words::num16;
+use words::num32;
 ghost use mathlib.Core.Path.{_≡_};
 ghost use Prim.Native.Nat.{_+_, _*_, _≤_, _<_};
 ghost use lib.ListN.{length};
@@ -36,11 +37,11 @@ fn mark_number(p: &[u8]) -> u64
     low + 4294967296 * byte(p, 4) + 1099511627776 * byte(p, 7) + 281474976710656 * byte(p, 15)
 }
 
-// The next number.
-fn next_of(p: &[u8]) -> u64
+// The next model number.
+pub fn next_number(p: &[u8]) -> u64
     ensures { λ r. ⌜ (r ≡ nextOf (now (p .entry))) × (r < 4294967296) ⌝ }
 {
-    num16(p, 8) + 65536 * num16(p, 10)
+    num32(p, 8)
 }
 
 // At most 64 of a list, and zeros behind them.
@@ -86,7 +87,7 @@ pub fn frame_right(p: &[u8], slots: usize) -> bool
     if mark_number(p) == 21775437 {
         if byte(p, 5) < 2 {
             if byte(p, 6) < 2 {
-                if next_of(p) > 65536 {
+                if next_number(p) > 65536 {
                     return false;
                 }
                 return lists_right(p, slots);
@@ -174,7 +175,7 @@ fn held_right(book: &[u8], places: u64, p: &[u8], i: usize) -> bool
 {
     let a = HEAD + SHEET * i;
     let e = a + SHEET;
-    if num16(p, a) < next_of(p) {
+    if num16(p, a) < next_number(p) {
         if differs(p, i) {
             return sheet_sound(book, &p[a..e], places, ELEMENTS, KEYS, FACTS);
         }

@@ -24,10 +24,10 @@ pub open-read : (input pool : Bytes) (a b answer : ℕ) (after : Bytes) → a �
     → OpenPromise (take (length input - 8) (drop 8 input)) pool a b answer after → OpenPromise (drop 8 input) pool (getD input 0 0) (getD input 1 0) answer after
 open-read input pool a b answer after e f o = rw (from-eight input, e, f) at o
 
-pub run-read : (input pool : Bytes) (a m n stop steps : ℕ) (after : Bytes) → a ≡ getD input 2 0 → m ≡ num input 4 → n ≡ num input 6
-    → RunPromise (take (length input - 8) (drop 8 input)) pool a (m + 65536 * n) 1000 stop steps after
+pub run-read : (input pool : Bytes) (a n stop steps : ℕ) (after : Bytes) → a ≡ getD input 2 0 → n ≡ num input 4 + 65536 * num input 6
+    → RunPromise (take (length input - 8) (drop 8 input)) pool a n 1000 stop steps after
     → RunPromise (drop 8 input) pool (getD input 2 0) (num input 4 + 65536 * num input 6) 1000 stop steps after
-run-read input pool a m n stop steps after e f g r = rw (from-eight input, e, f, g) at r
+run-read input pool a n stop steps after e f r = rw (from-eight input, e, f) at r
 
 -- ---- a longer input: its first 32,777 bytes tell that its book is too long
 

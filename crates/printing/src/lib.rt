@@ -2,7 +2,7 @@
 // low byte first) and a book. A pool of 12 slots is opened and run with a budget of 1,000. The text of every input is defined in lines,
 // specs/Printed.antt.
 use words::byte;
-use words::num16;
+use words::num32;
 ghost use mathlib.Core.Path.{_≡_};
 ghost use Prim.Native.Nat.{_+_, _*_, _≤_};
 ghost use lib.ListN.{length};
@@ -33,7 +33,7 @@ fn opened_text(input: &[u8], pool: &mut [u8], out: &mut [u8]) -> usize
     ensures { λ r. ⌜ Wrote (now (out .entry)) 0 (printed (now (input .entry))) (now (out .exit)) r ⌝ }
 {
     let bound = byte(input, 2) as u32;
-    let number = (num16(input, 4) + 65536 * num16(input, 6)) as u32;
+    let number = num32(input, 4) as u32;
     let ran = running::run(&input[8..], pool, bound, number, 1000);
     ran_text(pool, ran.stop, ran.steps, out)
 }

@@ -15,6 +15,7 @@
 // The line of a record is the call's name, its answer (of a run its stop and its steps) and the sums, in hex digits: of the book, of the pool, of a take's output. The last
 // line says how many records were replayed. A record that has no arm, ends early or does not fit ends the replay with a line that says so.
 use libc::STDOUT_FILENO;
+use words::num32;
 ghost use Prim.Native.Nat.{_<_};
 
 fn say(word: &[u8], x: u64) {
@@ -22,24 +23,13 @@ fn say(word: &[u8], x: u64) {
     io::print_decimal(STDOUT_FILENO, x);
 }
 
-// The 32-bit number at a place.
-fn num32(s: &[u8], at: usize) -> u64
-    requires { ⌜ at < 1000 ⌝ }
-    ensures { λ r. ⌜ r < 4294967296 ⌝ }
-{
-    words::num16(s, at) + 65536 * words::num16(s, at + 2)
-}
-
 // The number of a call at a place.
-fn given(s: &[u8], at: usize) -> u32
-    requires { ⌜ at < 1000 ⌝ }
-{
+fn given(s: &[u8], at: usize) -> u32 {
     num32(s, at) as u32
 }
 
 // The length at a place.
 fn size(s: &[u8], at: usize) -> usize
-    requires { ⌜ at < 1000 ⌝ }
     ensures { λ r. ⌜ r < 4294967296 ⌝ }
 {
     num32(s, at) as usize

@@ -18,7 +18,7 @@ enum Input {
 fn size(head: &[u8]) -> usize
     ensures { λ r. ⌜ r < 4294967296 ⌝ }
 {
-    (words::num16(head, 0) + 65536 * words::num16(head, 2)) as usize
+    words::num32(head, 0) as usize
 }
 
 // The text of an input, and the line behind it.

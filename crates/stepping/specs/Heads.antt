@@ -21,7 +21,7 @@ use Rattle.texts.specs.Names.{namesIn}
 use Rattle.texts.specs.Text.{LiteralText, SequentText}
 use Rattle.texts.specs.Parts.{sequent-grows}
 use Rattle.skips.specs.Rest.{SkipsMany}
-use Rattle.lists.specs.Header.{nextIn}
+use Rattle.poolparts.specs.Tests.{nextOf}
 use Rattle.lists.specs.Moves.{Imaged, shows-next}
 use Rattle.stepping.specs.Standing.{L}
 
@@ -104,13 +104,13 @@ module _ (p : Bytes) (n : ℕ) where
         let k = slot-count s sh in
         ap (λ b. if b (λ _. 16) (λ _. if (ltb numbers (s .next + n)) (λ _. 17) (λ _. 0))) (le-ltb (suc (length (free s))) n (omega arith))
 
-    pub room-numbers : 65536 < nextIn p + n → RoomFor p n 17
+    pub room-numbers : 65536 < nextOf p + n → RoomFor p n 17
     unfolding if numbers
     room-numbers l s sh o t =
         let e = shows-next L s p sh in
         sym (room-there s sh o t ∙ ap (λ b. if b (λ _. 17) (λ _. 0)) (lt-ltb 65536 (s .next + n) (omega arith)))
 
-    pub room-is : nextIn p + n ≤ 65536 → RoomFor p n 0
+    pub room-is : nextOf p + n ≤ 65536 → RoomFor p n 0
     unfolding if numbers
     room-is l s sh o t =
         let e = shows-next L s p sh in

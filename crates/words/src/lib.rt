@@ -1,6 +1,6 @@
-// words: bytes and 16-bit numbers of a text, low byte first. Every reader is total: what is past the end reads as 0.
+// words: bytes and numbers of 16 and of 32 bits of a text, low byte first. Every reader is total: what is past the end reads as 0.
 ghost use mathlib.Core.Path.{_≡_};
-ghost use Prim.Native.Nat.{_-_, _<_, _≤_};
+ghost use Prim.Native.Nat.{_+_, _-_, _*_, _<_, _≤_};
 ghost use lib.ListN.{length, getD};
 ghost use Rattle.rules.specs.Reading.{num};
 
@@ -17,6 +17,17 @@ pub fn num16(s: &[u8], at: usize) -> u64
 {
     if at < s.len() {
         byte(s, at) + 256 * byte(s, at + 1)
+    } else {
+        0
+    }
+}
+
+// The 32-bit number at a place.
+pub fn num32(s: &[u8], at: usize) -> u64
+    ensures { λ r. ⌜ (r ≡ num (now (s .entry)) at + 65536 * num (now (s .entry)) (at + 2)) × (r < 4294967296) ⌝ }
+{
+    if at < s.len() {
+        num16(s, at) + 65536 * num16(s, at + 2)
     } else {
         0
     }

@@ -7,7 +7,7 @@ use Rattle.adopting.proofs.place_child.Tie as tie
 use Rattle.adopting.proofs.place_child.Reads as reads
 use Rattle.adopting.proofs.place_child.Lts as lts
 use Rattle.lists.proofs.join.Reads as join-reads
-use Rattle.lists.proofs.next_number.Reads as next-number-reads
+use Rattle.poolparts.proofs.next_number.Reads as next-number-reads
 use Rattle.slots.proofs.put_sheet.Reads as put-sheet-reads
 
 next-number-requires : tie.Need-next-number-requires

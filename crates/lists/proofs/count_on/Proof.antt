@@ -8,7 +8,7 @@ use Rattle.lists.proofs.count_on.Statement.{statement}
 use Rattle.lists.proofs.count_on.Tie as tie
 use Rattle.lists.proofs.count_on.Reads as reads
 use Rattle.lists.proofs.count_on.Lts as lts
-use Rattle.lists.proofs.next_number.Reads as next-number-reads
+use Rattle.poolparts.proofs.next_number.Reads as next-number-reads
 
 next-number-requires : tie.Need-next-number-requires
 next-number-requires c κs = search needs

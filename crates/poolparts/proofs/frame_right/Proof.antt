@@ -16,8 +16,8 @@ byte-requires c κs = search needs
 byte-requires-2 : tie.Need-byte-requires-2
 byte-requires-2 c κs = search needs
 
-next-of-requires : tie.Need-next-of-requires
-next-of-requires c κs = search needs
+next-number-requires : tie.Need-next-number-requires
+next-number-requires c κs = search needs
 
 returns : tie.Need-returns
 unfolding frameRight
@@ -26,7 +26,7 @@ returns c =
     let j = k .before .before in
     let i = j .before .before in
     sym (on _ _ _ (eq-eqb _ _ (rw (i .before .mark-number .ensures) at (i .if1 .taken))) ∙ on _ _ _ (lt-ltb _ 2 (rw (j .before .byte .ensures .0) at (j .if2 .taken)))
-    ∙ on _ _ _ (lt-ltb _ 2 (rw (k .before .byte2 .ensures .0) at (k .if3 .taken))) ∙ on _ _ _ (lt-ltb 65536 _ (rw (c .before .next-of .ensures .0) at (c .if4 .taken))))
+    ∙ on _ _ _ (lt-ltb _ 2 (rw (k .before .byte2 .ensures .0) at (k .if3 .taken))) ∙ on _ _ _ (lt-ltb 65536 _ (rw (c .before .next-number .ensures .0) at (c .if4 .taken))))
 
 lists-right-requires : tie.Need-lists-right-requires
 lists-right-requires c κs = search needs
@@ -39,7 +39,7 @@ returns-2 c =
     let j = k .before .before in
     let i = j .before .before in
     c .lists-right .ensures ∙ sym (on _ _ _ (eq-eqb _ _ (rw (i .before .mark-number .ensures) at (i .if1 .taken))) ∙ on _ _ _ (lt-ltb _ 2 (rw (j .before .byte .ensures .0) at (j .if2 .taken)))
-    ∙ on _ _ _ (lt-ltb _ 2 (rw (k .before .byte2 .ensures .0) at (k .if3 .taken))) ∙ off _ _ _ (le-ltb 65536 _ (rw (q .before .next-of .ensures .0) at (q .if4 .left))))
+    ∙ on _ _ _ (lt-ltb _ 2 (rw (k .before .byte2 .ensures .0) at (k .if3 .taken))) ∙ off _ _ _ (le-ltb 65536 _ (rw (q .before .next-number .ensures .0) at (q .if4 .left))))
 
 returns-3 : tie.Need-returns-3
 unfolding frameRight
@@ -67,7 +67,7 @@ frame-right-spec =
     mark-number-requires
     byte-requires
     byte-requires-2
-    next-of-requires
+    next-number-requires
     returns
     lists-right-requires
     returns-2

@@ -23,8 +23,8 @@ add-e c = search needs
 num16-requires : tie.Need-num16-requires
 num16-requires c κs = search needs
 
-next-of-requires : tie.Need-next-of-requires
-next-of-requires c κs = search needs
+next-number-requires : tie.Need-next-number-requires
+next-number-requires c κs = search needs
 
 differs-requires : tie.Need-differs-requires
 differs-requires c κs = search needs
@@ -48,19 +48,19 @@ returns c =
     let n = d .before .before in
     let s = n .before .before .before .before in
     c .sheet-sound .ensures ∙ ap (sheetSound (limited 64 128 128) (namesIn (s .args .book .now)) (s .args .places)) (lent-part _ (s .args .p .now))
-    ∙ sym (on _ _ _ (lt-ltb _ _ (rw (n .next-of .ensures .0, n .before .num16 .ensures .0) at (d .before .if1 .taken))) ∙ on _ _ _ (sym (d .differs .ensures) ∙ c .before .before .if2 .taken))
+    ∙ sym (on _ _ _ (lt-ltb _ _ (rw (n .next-number .ensures .0, n .before .num16 .ensures .0) at (d .before .if1 .taken))) ∙ on _ _ _ (sym (d .differs .ensures) ∙ c .before .before .if2 .taken))
 
 returns-2 : tie.Need-returns-2
 unfolding heldRight
 returns-2 c =
     let n = c .before .before .before in
-    sym (on _ _ _ (lt-ltb _ _ (rw (n .next-of .ensures .0, n .before .num16 .ensures .0) at (c .before .before .if1 .taken))) ∙ off _ _ _ (sym (c .before .differs .ensures) ∙ c .if2 .left))
+    sym (on _ _ _ (lt-ltb _ _ (rw (n .next-number .ensures .0, n .before .num16 .ensures .0) at (c .before .before .if1 .taken))) ∙ off _ _ _ (sym (c .before .differs .ensures) ∙ c .if2 .left))
 
 returns-3 : tie.Need-returns-3
 unfolding heldRight
 returns-3 c =
     let n = c .before in
-    sym (off _ _ _ (le-ltb _ _ (rw (n .next-of .ensures .0, n .before .num16 .ensures .0) at (c .if1 .left))))
+    sym (off _ _ _ (le-ltb _ _ (rw (n .next-number .ensures .0, n .before .num16 .ensures .0) at (c .if1 .left))))
 
 pub held-right-spec : {M : Type 1} → statement M
 held-right-spec =
@@ -70,7 +70,7 @@ held-right-spec =
     add-a
     add-e
     num16-requires
-    next-of-requires
+    next-number-requires
     differs-requires
     sub-sheet-sound
     part-sheet-sound-start

@@ -13,17 +13,8 @@ byte-requires c κs = search needs
 cast-bound : tie.Need-cast-bound
 cast-bound c = search needs
 
-num16-requires : tie.Need-num16-requires
-num16-requires c κs = search needs
-
-num16-requires-2 : tie.Need-num16-requires-2
-num16-requires-2 c κs = search needs
-
-mul-number : tie.Need-mul-number
-mul-number c = search needs
-
-add-number : tie.Need-add-number
-add-number c = search needs
+num32-requires : tie.Need-num32-requires
+num32-requires c κs = search needs
 
 cast-number : tie.Need-cast-number
 cast-number c = search needs
@@ -42,8 +33,8 @@ run-requires c κs = search needs
 
 ran-text-requires : tie.Need-ran-text-requires
 ran-text-requires c κs =
-    let s = c .before .before .before .before .before .before .before .before .before .before .before .before .before in
-    let p = run-read (s .args .input .now) (s .args .pool .now) _ _ _ _ _ _ (c .before .before .before .before .before .before .before .before .before .byte .ensures .0) (c .before .before .before .before .before .before .before .before .num16 .ensures .0) (c .before .before .before .before .before .before .before .num162 .ensures .0) (c .before .before .before .before .run .ensures) in
+    let s = c .before .before .before .before .before .before .before .before .before .before .before .before in
+    let p = run-read (s .args .input .now) (s .args .pool .now) _ _ _ _ _ (c .before .before .before .before .before .before .before .before .byte .ensures .0) (c .before .before .before .before .before .before .before .num32 .ensures .0) (c .before .before .before .before .run .ensures) in
     let f = few-listed (s .args .input .now) (s .args .pool .now) (s .pre .0) _ _ _ p in
     (search needs, omega arith)
 
@@ -55,8 +46,8 @@ same-length-2 c = search needs
 
 returns : tie.Need-returns
 returns c =
-    let s = c .before .before .before .before .before .before .before .before .before .before .before .before .before .before .before .before in
-    let p = run-read (s .args .input .now) (s .args .pool .now) _ _ _ _ _ _ (c .before .before .before .before .before .before .before .before .before .before .before .before .byte .ensures .0) (c .before .before .before .before .before .before .before .before .before .before .before .num16 .ensures .0) (c .before .before .before .before .before .before .before .before .before .before .num162 .ensures .0) (c .before .before .before .before .before .before .before .run .ensures) in
+    let s = c .before .before .before .before .before .before .before .before .before .before .before .before .before .before .before in
+    let p = run-read (s .args .input .now) (s .args .pool .now) _ _ _ _ _ (c .before .before .before .before .before .before .before .before .before .before .before .byte .ensures .0) (c .before .before .before .before .before .before .before .before .before .before .num32 .ensures .0) (c .before .before .before .before .before .before .before .run .ensures) in
     wrote-as _ (prints-run (s .args .input .now) (s .args .pool .now) (s .pre .0) _ _ _ p) (c .before .before .ran-text .ensures)
 
 pub opened-text-spec : {M : Type 1} → statement M
@@ -65,10 +56,7 @@ opened-text-spec =
     (tie.spec
     byte-requires
     cast-bound
-    num16-requires
-    num16-requires-2
-    mul-number
-    add-number
+    num32-requires
     cast-number
     sub-run
     part-run-start

@@ -5,7 +5,7 @@ use Rattle.stepping.proofs.room_for.Statement.{statement}
 use Rattle.stepping.proofs.room_for.Tie as tie
 use Rattle.stepping.proofs.room_for.Reads as reads
 use Rattle.stepping.proofs.room_for.Lts as lts
-use Rattle.lists.proofs.next_number.Reads as next-number-reads
+use Rattle.poolparts.proofs.next_number.Reads as next-number-reads
 use Rattle.octets.proofs.byte.Reads as byte-reads
 
 sub-slots : tie.Need-sub-slots
