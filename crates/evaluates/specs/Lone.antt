@@ -24,7 +24,7 @@ use Rattle.soundness.specs.Book.{SmallNames, read-small}
 use Rattle.demands.specs.Shape.{storable-model}
 use Rattle.texts.specs.Reads.{many-got}
 use Rattle.texts.specs.Names.{namesIn, countAt}
-use Rattle.texts.specs.Heads.{accepted}
+use Rattle.texts.specs.Heads.{accepted, ReadAs}
 use Rattle.sheetparts.specs.Tests.{sheetSound}
 use Rattle.sheets.specs.Form.{limitsOf, Holds}
 use Rattle.sheets.specs.Load.{Loaded}
@@ -36,14 +36,6 @@ use Rattle.evalforms.specs.Basis.{Basis, Evaluated}
 -- The limits of this version, as code has them.
 abbrev pub L : Limits
 L = limitsOf 64 128 128
-
-pub record ReadAs (text : Bytes) : Type 0 where
-  pub book : Book
-  pub end : ℕ
-  pub reads : readBook text ≡ got book end
-
-pub read-as : (text : Bytes) (b : Book) (e : ℕ) → readBook text ≡ got b e → ReadAs text
-read-as text b e q = record { book = b; end = e; reads = q }
 
 -- "Its place 0 or below the sequent count."
 abbrev pub lonePlaces : Bytes → ℕ

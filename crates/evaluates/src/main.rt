@@ -25,7 +25,8 @@ use sheets::load_sheet;
 ghost use mathlib.Core.Path.{_≡_};
 ghost use Prim.Native.Nat.{_+_, _≤_, _<_};
 ghost use lib.ListN.{length};
-ghost use Rattle.evaluates.specs.Lone.{ReadAs, lonePlaces, Lone, FiresOn};
+ghost use Rattle.texts.specs.Heads.{ReadAs};
+ghost use Rattle.evaluates.specs.Lone.{lonePlaces, Lone, FiresOn};
 
 fn say(word: &[u8], x: u64) {
     io::write_all(STDOUT_FILENO, word);

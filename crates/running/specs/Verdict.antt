@@ -25,14 +25,6 @@ use Rattle.poolcheck.specs.Books.{PoolSound}
 use Rattle.openings.specs.Order.{firstRefusal, first-refuses, none-refused}
 use Rattle.stepping.specs.Standing.{L, Standing, stepOf, Went}
 
-pub record ReadAs (text : Bytes) : Type 0 where
-  pub book : Book
-  pub end : ℕ
-  pub reads : readBook text ≡ got book end
-
-pub read-as : (text : Bytes) (b : Book) (e : ℕ) → readBook text ≡ got b e → ReadAs text
-read-as text b e q = record { book = b; end = e; reads = q }
-
 -- What a step's outcome is of the definition's answer, and a run's.
 abbrev pub afterStep : Bytes → Answer → Outcome
 afterStep p r = if (eqb (r .refusal) 0) (λ _. outcome 0 (poolBytes L (r .state))) (λ _. outcome (r .refusal) p)

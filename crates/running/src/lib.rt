@@ -12,9 +12,10 @@ ghost use mathlib.Core.Path.{_≡_};
 ghost use Prim.Native.Nat.{_≤_};
 ghost use lib.ListN.{length};
 ghost use Rattle.rules.specs.Calls.{knownBound, StepPromise, RunPromise};
+ghost use Rattle.texts.specs.Heads.{ReadAs};
 ghost use Rattle.sheets.specs.Form.{formSize};
 ghost use Rattle.stepping.specs.Standing.{L, Standing};
-ghost use Rattle.running.specs.Verdict.{ReadAs, Verdict};
+ghost use Rattle.running.specs.Verdict.{Verdict};
 ghost use Rattle.running.specs.Runs.{RanFrom};
 
 // 12: a bound that is known, and Unbounded with the number 0 alone.

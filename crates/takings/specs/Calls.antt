@@ -15,21 +15,13 @@ use Rattle.rules.specs.Step.{lists, listOf}
 use Rattle.rules.specs.Image.{poolIn}
 use Rattle.rules.specs.Sound.{sound}
 use Rattle.rules.specs.Calls.{rightLength, checked, soundly, TakeOutcome, takeOutcome, takeCall, TakePromise}
-use Rattle.texts.specs.Heads.{Accepted, accepted}
+use Rattle.texts.specs.Heads.{Accepted, accepted, ReadAs}
 use Rattle.sheetparts.specs.Tests.{byteAt}
 use Rattle.sheetparts.specs.Ways.{on, off}
 use Rattle.poolcheck.specs.Pools.{sound-frame}
 use Rattle.poolcheck.specs.Books.{right-slots, PoolSound}
 use Rattle.openings.specs.Order.{firstRefusal, first-refuses, none-refused}
 use Rattle.takings.specs.Take.{takeFirst, takeGoing, takeRest, Took, took-by, took-is, Ready}
-
--- A text that is read as a book.
-pub record IsBook (text : Bytes) : Type 0 where
-  pub book : Book
-  pub ok : Accepted text book
-
-pub is-book : (text : Bytes) (b : Book) (e : ℕ) → readBook text ≡ got b e → IsBook text
-is-book text b e q = record { book = b; ok = accepted text b e q }
 
 -- What take does behind the book's check, for every book that the text is read as.
 abbrev pub TookRest : Bytes → Bytes → ℕ → Bytes → ℕ → Bytes → Bytes → Type 0
@@ -61,10 +53,10 @@ module _ (text pool : Bytes) (list : ℕ) (out : Bytes) (n : ℕ) (e : n ≡ fir
       rest-going q answer after written t b ok =
           took-by _ _ _ _ _ (on (rightLength (length pool)) _ _ (sym (fit .0)) ∙ on (ltb list 2) _ _ (sym (fit .1)) ∙ on (sound limits b pool) _ _ (sym (s b ok) ∙ q)) t
 
-      pub ready : IsBook text → ((i : ℕ) → byteAt pool i < 256) → r ≡ true → Ready pool
+      pub ready : ReadAs text → ((i : ℕ) → byteAt pool i < 256) → r ≡ true → Ready pool
       ready g bytes q =
           let k = right-slots (length pool) right in
-          let f = sound-frame (g .book) pool ((length pool - 208) / 2128) (k .0) bytes (subst T (sym (sym (s (g .book) (g .ok)) ∙ q)) tt) in
+          let f = sound-frame (g .book) pool ((length pool - 208) / 2128) (k .0) bytes (subst T (sym (sym (s (g .book) (accepted text (g .book) (g .end) (g .reads))) ∙ q)) tt) in
           record { slots = (length pool - 208) / 2128; long = k .0; frame = f .0; image = f .1 }
 
 -- ---- the promise

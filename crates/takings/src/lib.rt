@@ -16,10 +16,11 @@ ghost use Prim.Native.Nat.{_+_, _*_, _≤_, _<_};
 ghost use lib.ListN.{length, replicate};
 ghost use Rattle.octets.specs.Patch.{patched};
 ghost use Rattle.rules.specs.Calls.{TakePromise};
+ghost use Rattle.texts.specs.Heads.{ReadAs};
 ghost use Rattle.heads.specs.Lists.{Popped};
 ghost use Rattle.takings.specs.Moves.{copied};
 ghost use Rattle.takings.specs.Take.{takeGoing, Took, Ready};
-ghost use Rattle.takings.specs.Calls.{IsBook, TookRest};
+ghost use Rattle.takings.specs.Calls.{TookRest};
 
 // The slot at a place, into the front of the output.
 fn copy_slot(pool: &[u8], a: usize, out: &mut [u8])
@@ -62,7 +63,7 @@ fn take_sound(pool: &mut [u8], list: u32, out: &mut [u8]) -> u32
 
 // Take behind the book's check: 11, 12, 13, then the rest.
 fn take_checked(book: &[u8], pool: &mut [u8], list: u32, out: &mut [u8]) -> u32
-    requires { ⌜ IsBook (now book) ⌝ }
+    requires { ⌜ ReadAs (now book) ⌝ }
     ensures { λ r. ⌜ TookRest (now (book .entry)) (now (pool .entry)) list (now (out .entry)) r (now (pool .exit)) (now (out .exit)) ⌝ }
 {
     let right = right_length(pool.len());

@@ -212,3 +212,12 @@ accepted s b e h =
       starts = omega (arith, k .0 .fits);
       read = moved s _ _ _ _ _ _ _ _ _ _ (f .are) w d seqs l (v .before);
     }
+
+-- A text that is read as a book.
+pub record ReadAs (s : Bytes) : Type 0 where
+  pub book : Book
+  pub end : ℕ
+  pub reads : readBook s ≡ got book end
+
+pub read-as : (s : Bytes) (b : Book) (e : ℕ) → readBook s ≡ got b e → ReadAs s
+read-as s b e q = record { book = b; end = e; reads = q }

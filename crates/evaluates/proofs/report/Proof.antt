@@ -1,7 +1,7 @@
 -- The book is read, in front of the sheet's check.
 use mathlib.Core.Path.{sym, _∙_}
 use Rattle.numbers.specs.Answers.{checked-ends}
-use Rattle.evaluates.specs.Lone.{read-as}
+use Rattle.texts.specs.Heads.{read-as}
 use borrow.Author.Needs.{needs}
 use Rattle.evaluates.proofs.report.Statement.{statement}
 use Rattle.evaluates.proofs.report.Tie as tie

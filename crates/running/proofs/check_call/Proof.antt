@@ -1,7 +1,8 @@
 use borrow.Author.Needs.{needs}
 use mathlib.Core.Path.{sym, _∙_}
 use Rattle.numbers.specs.Answers.{checked-ends, checked-refused}
-use Rattle.running.specs.Verdict.{read-as, verdict-book}
+use Rattle.texts.specs.Heads.{read-as}
+use Rattle.running.specs.Verdict.{verdict-book}
 use Rattle.running.proofs.check_call.Statement.{statement}
 use Rattle.running.proofs.check_call.Tie as tie
 use Rattle.running.proofs.check_call.Reads as reads

@@ -1,7 +1,8 @@
 -- `take` meets its contract: each way out by its law.
 use mathlib.Core.Path.{sym, _∙_}
 use Rattle.numbers.specs.Answers.{checked-ends, checked-refused}
-use Rattle.takings.specs.Calls.{is-book, take-going, take-refused}
+use Rattle.texts.specs.Heads.{read-as}
+use Rattle.takings.specs.Calls.{take-going, take-refused}
 use borrow.Author.Needs.{needs}
 use Rattle.takings.proofs.take.Statement.{statement}
 use Rattle.takings.proofs.take.Tie as tie
@@ -18,7 +19,7 @@ enum-known-e c = search needs
 take-checked-requires : tie.Need-take-checked-requires
 take-checked-requires c κs =
     let d = checked-ends _ _ (sym (c .before .before .before .e .given .1) ∙ c .before .before .before .before .before .check-book .ensures) in
-    is-book _ _ _ (d .read)
+    read-as _ _ _ (d .read)
 
 returns : tie.Need-returns
 returns c =
