@@ -27,7 +27,8 @@ use Rattle.soundness.specs.Book.{SmallNames}
 use Rattle.pools.specs.Count.{cnt, cnt-all}
 use Rattle.pools.specs.Slots.{stored-length, Free, free-are, free-once, placed-length, placed-all, placed-slots, placed-cnt, placed-low, placed-differ}
 use Rattle.pools.specs.Tidy.{Listed, placesOf, Tidy}
-use Rattle.pools.specs.Moves.{New, placed-tidy}
+use Rattle.pools.specs.Moves.{placed-tidy}
+use Rattle.pools.specs.Steps.{new-ones}
 use Rattle.demands.specs.Shape.{storable-model, byte-model, tidy-storable, tidy-bytes, places-few}
 use Rattle.placing.specs.OneByOne.{theChild, place-one, free-next, free-count}
 use Rattle.texts.specs.Reads.{Follow}
@@ -80,20 +81,6 @@ PlacedAll book at n v bd lim place env base slots p p′ = (b : Book) → Ground
     → p′ ≡ poolBytes lim (withPlaced s (placed (free s) place (s .next) (kidsOf bd lim v (take v env) m ds)) .state)
 
 -- ---- one child: what the state has then
-
--- Children in free slots are new.
-new-ones : (lim : Limits) (b : Book) (s : State) (place : ℕ) (ks : List Child) → place < placesOf b s → length ks ≤ length (free s) → s .next + length ks ≤ numbers
-    → All (λ (k : Child). T (soundModel lim (b .names) (k .model))) ks → New lim b s (placed (free s) place (s .next) ks)
-unfolding soundSheet
-new-ones lim b s place ks there fits left good = record {
-  once = λ j. le-trans (placed-cnt place j (free s) (s .next) ks) (free-once s j);
-  free = placed-slots place (Free s) (free s) (s .next) ks (free-are s);
-  numbered = placed-low place (free s) (s .next) ks;
-  differ = placed-differ place (free s) (s .next) ks;
-  room = subst (λ k. s .next + k ≤ numbers) (sym (placed-length place (free s) (s .next) ks fits)) left;
-  sound = placed-all place (λ (k : Child). T (soundModel lim (b .names) (k .model))) (λ (x : Placed). T (soundSheet lim (b .names) (placesOf b s) (x .sheet)))
-      (λ _ _ k z. and-i (soundModel lim (b .names) (k .model)) _ z (lt→ltb place (placesOf b s) there)) (free s) (s .next) ks good;
-}
 
 only-one : (s : State) (place i : ℕ) (fs : List ℕ) (k : Child) → free s ≡ i ∷ fs → placed (free s) place (s .next) (k ∷ []) ≡ theChild s place i k ∷ []
 unfolding placed theChild

@@ -128,7 +128,8 @@ fired-some : (m : Model) (rs : List Sequent) (st : Strategy) (p : ℕ) (f : Firi
 fired-some m rs st p f e =
     firing-is (λ _. Unit) (λ _. 0 < length rs) m (all-any (λ _. Unit) (λ _. tt) (domain m)) (visits st p rs) (visits-within st p rs (λ _. 0 < length rs) (inhabited rs)) f e .visited
 
-none-over : (ks : List Child) → T (not (any (λ (k : Child). k .over) ks)) → All (λ (k : Child). T (not (k .over))) ks
+-- Where none of the children is over a limit, each is within.
+pub none-over : (ks : List Child) → T (not (any (λ (k : Child). k .over) ks)) → All (λ (k : Child). T (not (k .over))) ks
 none-over [] t = tt
 none-over (k ∷ ks) t = let u = or-no (k .over) (any (λ (j : Child). j .over) ks) t in (u .0, none-over ks (u .1))
 
@@ -143,6 +144,20 @@ pub same-length : (b : Book) → length (rules b) ≡ length (b .sequents)
 unfolding rules
 same-length b = length-map (b .sequents) _
 
+-- Children in free slots are new sheets.
+pub new-ones : (lim : Limits) (b : Book) (s : State) (place : ℕ) (ks : List Child) → place < placesOf b s → length ks ≤ length (free s) → s .next + length ks ≤ numbers
+    → All (λ (k : Child). T (soundModel lim (b .names) (k .model))) ks → New lim b s (placed (free s) place (s .next) ks)
+unfolding soundSheet
+new-ones lim b s place ks there fits left good = record {
+  once = λ j. le-trans (placed-cnt place j (free s) (s .next) ks) (free-once s j);
+  free = placed-slots place (Free s) (free s) (s .next) ks (free-are s);
+  numbered = placed-low place (free s) (s .next) ks;
+  differ = placed-differ place (free s) (s .next) ks;
+  room = subst (λ k. s .next + k ≤ numbers) (sym (placed-length place (free s) (s .next) ks fits)) left;
+  sound = placed-all place (λ (k : Child). T (soundModel lim (b .names) (k .model))) (λ (x : Placed). T (soundSheet lim (b .names) (placesOf b s) (x .sheet)))
+      (λ _ _ k z. and-i (soundModel lim (b .names) (k .model)) _ z (lt→ltb place (placesOf b s) there)) (free s) (s .next) ks good;
+}
+
 module _ (lim : Limits) (b : Book) (kids : KidsSound lim b) where
   abbrev newOnes : Bound → State → ℕ → List ℕ → Firing → List Placed
   newOnes bd s i ws f = placed (free (withoutBase s i ws)) (placeAfter (strategyIn s) (f .index) (length (rules b))) (s .next) (kidsOf lim bd s i f)
@@ -153,25 +168,14 @@ module _ (lim : Limits) (b : Book) (kids : KidsSound lim b) where
       → New lim b (withoutBase s i ws) (newOnes bd s i ws f)
   unfolding withoutBase changed soundSheet
   branch-new bd s g i ws f e q t u v =
-      let s₀ = withoutBase s i ws in
       let ks = kidsOf lim bd s i f in
-      let is = free s₀ in
       let p = placeAfter (strategyIn s) (f .index) (length (rules b)) in
-      let fits : length ks ≤ length is = le-trans u (free-more s i ws e (g .once) (g .there i (first-listed s i ws e))) in
-      let n = placed-length p is (s .next) ks fits in
-      let right : p < placesOf b s = subst (λ k. p < places (strategyIn s) k) (same-length b) (place-right (strategyIn s) (f .index) (length (rules b)) (fired-some (sheetAt s i .model) (rules b) (strategyIn s) (sheetAt s i .place) f q)) in
-      record {
-        once = λ j. le-trans (placed-cnt p j is (s .next) ks) (free-once s₀ j);
-        free = placed-slots p (Free s₀) is (s .next) ks (free-are s₀);
-        numbered = placed-low p is (s .next) ks;
-        differ = placed-differ p is (s .next) ks;
-        room = subst (λ k. s .next + k ≤ numbers) (sym n) v;
-        sound = placed-all p (λ (k : Child). T (soundModel lim (b .names) (k .model))) (λ (x : Placed). T (soundSheet lim (b .names) (placesOf b s) (x .sheet)))
-            (λ _ _ k z. and-i (soundModel lim (b .names) (k .model)) _ z (lt→ltb p (placesOf b s) right)) is (s .next) ks
-            (all-both (λ (k : Child). T (not (k .over))) (λ (k : Child). T (not (k .over)) → T (soundModel lim (b .names) (k .model))) (λ (k : Child). T (soundModel lim (b .names) (k .model)))
-            (λ k a h. h a) ks (none-over ks t)
-            (kids bd (sheetAt s i .model) (visited (rules b) s i) f (base-sound s g i (first-listed s i ws e)) (visits-within (strategyIn s) (sheetAt s i .place) (rules b)) q));
-      }
+      new-ones lim b (withoutBase s i ws) p ks
+      (subst (λ k. p < places (strategyIn s) k) (same-length b) (place-right (strategyIn s) (f .index) (length (rules b)) (fired-some (sheetAt s i .model) (rules b) (strategyIn s) (sheetAt s i .place) f q)))
+      (le-trans u (free-more s i ws e (g .once) (g .there i (first-listed s i ws e)))) v
+      (all-both (λ (k : Child). T (not (k .over))) (λ (k : Child). T (not (k .over)) → T (soundModel lim (b .names) (k .model))) (λ (k : Child). T (soundModel lim (b .names) (k .model)))
+      (λ k a h. h a) ks (none-over ks t)
+      (kids bd (sheetAt s i .model) (visited (rules b) s i) f (base-sound s g i (first-listed s i ws e)) (visits-within (strategyIn s) (sheetAt s i .place) (rules b)) q))
     where
       base-sound : (s : State) → Tidy lim b s → (i : ℕ) → Listed s i → T (soundModel lim (b .names) (sheetAt s i .model))
       base-sound s g i l = and-l (soundModel lim (b .names) (sheetAt s i .model)) _ (g .sheets i l)

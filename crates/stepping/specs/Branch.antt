@@ -30,7 +30,7 @@ use Rattle.soundness.specs.Child.{domain-known}
 use Rattle.pools.specs.Count.{cnt-all}
 use Rattle.pools.specs.Slots.{free-more}
 use Rattle.pools.specs.Tidy.{placesOf}
-use Rattle.pools.specs.Steps.{strategyIn, visited, KidsSound, same-length, first-listed, place-right}
+use Rattle.pools.specs.Steps.{strategyIn, visited, KidsSound, same-length, first-listed, place-right, none-over}
 use Rattle.pools.specs.Steps as pools
 use Rattle.demands.specs.Kept.{kids-sound}
 use Rattle.texts.specs.Names.{namesIn, countAt}
@@ -78,18 +78,9 @@ unfolding visits
 visits-low linear p rs = all-numbers rs
 visits-low fair p rs = all-append (λ (x : ℕ × Sequent). x .0 < length rs) (drop p (numbered 0 rs)) (take p (numbered 0 rs)) (all-drop (λ (x : ℕ × Sequent). x .0 < length rs) p (numbered 0 rs) (all-numbers rs)) (all-take (λ (x : ℕ × Sequent). x .0 < length rs) p (numbered 0 rs) (all-numbers rs))
 
-not-over : (b : Bool) → b ≡ false → T (not b)
-not-over true e = absurd (subst T e tt)
-not-over false e = tt
-
-none-over : (ks : List Child) → false ≡ any (λ (c : Child). c .over) ks → All (λ (c : Child). c .over ≡ false) ks
-none-over [] e = tt
-none-over (c ∷ ks) e = go (c .over) refl e (none-over ks)
-  where
-    go : (b : Bool) → c .over ≡ b → false ≡ c .over || any (λ (x : Child). x .over) ks → (false ≡ any (λ (x : Child). x .over) ks → All (λ (x : Child). x .over ≡ false) ks)
-        → All (λ (x : Child). x .over ≡ false) (c ∷ ks)
-    go true y u again = absurd (subst T (sym (u ∙ ap (λ w. w || any (λ (x : Child). x .over) ks) y)) tt)
-    go false y u again = (y, again (u ∙ ap (λ w. w || any (λ (x : Child). x .over) ks) y))
+within : (b : Bool) → T (not b) → b ≡ false
+within true t = absurd t
+within false t = refl
 
 module _ (text p : Bytes) (z : Standing text p) (i q a : ℕ) (base env : List ℕ) (f : Fires text p z i q a base env) where
   abbrev s : State
@@ -232,8 +223,8 @@ module _ (text p : Bytes) (z : Standing text p) (i q a : ℕ) (base env : List �
 
             all-good : All (Good L (z .book)) kids
             unfolding limits
-            all-good = all-both (λ (c : Child). c .over ≡ false) (λ (c : Child). T (not (c .over)) → T (soundModel L (z .book .names) (c .model))) (Good L (z .book))
-                (λ c y g. (y, g (not-over (c .over) y))) kids (none-over kids (over-is false l o))
+            all-good = all-both (λ (c : Child). T (not (c .over))) (λ (c : Child). T (not (c .over)) → T (soundModel L (z .book .names) (c .model))) (Good L (z .book))
+                (λ c y g. (within (c .over) y, g y)) kids (none-over kids (subst (λ x. T (not x)) (over-is false l o) tt))
                 (subst (All (λ (c : Child). T (not (c .over)) → T (soundModel L (z .book .names) (c .model)))) kids-are
                 (kids-sound text (z .book) (z .end) (z .reads) bd m (visited (rules (z .book)) s i) fired (model-sound text p z i (f .rest) (f .waiting))
                 (visits-within (strategyIn s) (sheetAt s i .place) (rules (z .book))) (f .at .is)))
