@@ -3,27 +3,25 @@ use mathlib.Core.Path.{_≡_, refl, sym, ap, ap₂, _∙_, subst}
 use Prim.Native.Nat.{ℕ, zero, suc, _+_, _*_, _≤_, _<_}
 use native.Mathlib.Omega.{arith}
 use mathlib.Core.Bool.{Bool, true, false}
-use mathlib.Core.List.{List, [], _∷_, _++_, map}
+use mathlib.Core.List.{List, [], _∷_, _++_}
 use lib.ListN.{length, getD, set, replicate, length-set}
 use Rattle.base.specs.Branch.{if}
-use Rattle.base.specs.Lists.{All}
 use Rattle.base.specs.ListLaws.{all-set}
 use Rattle.rules.specs.Reading.{Bytes}
 use Rattle.rules.specs.Sheet.{Model, Sheet, blank, Limits}
 use Rattle.rules.specs.Pool.{State, schedulerOf, changed, freed}
-use Rattle.rules.specs.Image.{part, headSize, sheetSize, sheetBytes, poolBytes, mostSlots}
+use Rattle.rules.specs.Image.{part, headSize, sheetSize, sheetBytes, poolBytes}
 use Rattle.rules.specs.Bound.{History}
 use Rattle.rules.specs.Step.{Placed, stored, openSlots, cutSlots, schedule, done, withPlaced, withoutBase}
-use Rattle.images.specs.Storable.{Octet, SmallLimits, StorableModel, StorableSheet, StorableState, ByteModel, ByteSheet, ByteState, blank-storable, blank-bytes}
+use Rattle.images.specs.Storable.{Octet, StorableModel, StorableSheet, ByteModel, ByteSheet, blank-storable, blank-bytes}
 use Rattle.images.specs.Sheets.{blank-zero}
 use Rattle.octets.specs.Patch.{patched}
-use Rattle.sheets.specs.Form.{limitsOf, View, viewOf, Formed, Holds, keysAt, factsAt, depthsAt, historyAt}
+use Rattle.sheets.specs.Form.{viewOf, Formed, Holds, keysAt, factsAt, depthsAt}
 use Rattle.slots.specs.Store.{viewBytes}
 use Rattle.slots.specs.Carry.{stored-image}
 use Rattle.enter.specs.Keep.{Carries}
 use Rattle.heads.specs.Writes.{slot-written}
 use Rattle.poolparts.specs.Tests.{nextOf}
-use Rattle.lists.specs.Header.{next-in}
 use Rattle.lists.specs.Moves.{Imaged, Room, Forgotten, Joined, opens, cuts, shows-next}
 
 abbrev pub Freed : Limits → ℕ → Bytes → Bytes → Type 0

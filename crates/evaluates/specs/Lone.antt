@@ -1,12 +1,12 @@
 -- A lone sheet that passed the checks: of a book that was read, and sound by the parts about itself. Its working form is a basis for the
 -- evaluator, which answers for the sheet that the bytes say.
 use mathlib.Core.Path.{_≡_, sym, subst, _∙_}
-use Prim.Native.Nat.{ℕ, _+_, _*_, _≤_, _<_, max}
+use Prim.Native.Nat.{ℕ, _≤_, _<_, max}
 use native.Mathlib.Omega.{arith}
 use mathlib.Core.Bool.{Bool, true}
-use mathlib.Core.List.{List, [], _++_, append-nil}
+use mathlib.Core.List.{List, [], append-nil}
 use lib.ListN.{length, getD}
-use lib.Dec.{T, ltb, ltb→lt}
+use lib.Dec.{T, ltb→lt}
 use Rattle.base.specs.Lists.{equal}
 use Rattle.base.specs.ListLaws.{equal-eq}
 use Rattle.base.specs.BranchLaws.{and-l, and-r}

@@ -3,13 +3,13 @@ use mathlib.Core.Path.{_≡_, refl, sym, ap, ap₂, _∙_, subst}
 use Prim.Native.Nat.{ℕ, zero, suc, _+_, _*_, _/_, _%_, _≤_, _<_}
 use native.Mathlib.Omega.{arith}
 use mathlib.Core.Bool.{Bool, true, false, not}
-use mathlib.Core.List.{List, [], _∷_, _++_, append-nil, map}
+use mathlib.Core.List.{List, [], _∷_, _++_, append-nil}
 use lib.ListN.{length, getD, set}
-use Rattle.base.specs.Lists.{All, mem, keep, from, flat}
+use Rattle.base.specs.Lists.{All, mem, keep, from}
 use Rattle.rules.specs.Reading.{Bytes, num}
 use Rattle.rules.specs.Sheet.{Limits}
 use Rattle.rules.specs.Pool.{State, Scheduler, fifo, lifo, schedulerOf, used, free, changed}
-use Rattle.rules.specs.Image.{word, long, poolMark, poolHead, poolIn, poolBytes, mostSlots, sheetBytes}
+use Rattle.rules.specs.Image.{word, long, poolMark, poolHead, poolIn, poolBytes, mostSlots}
 use Rattle.rules.specs.Step.{pushed, schedule}
 use Rattle.images.specs.Storable.{Octet, SmallLimits, StorableState, ByteState}
 use Rattle.images.specs.Pools.{pool-back}

@@ -1,32 +1,27 @@
 -- All children stored, one after another: the state that the definition has with all of them placed.
-use mathlib.Core.Path.{_≡_, refl, sym, ap, ap₂, _∙_, subst}
-use Prim.Native.Nat.{ℕ, zero, suc, _+_, _-_, _≤_, _<_, max}
-use native.Mathlib.Nat.{le-trans}
+use mathlib.Core.Path.{_≡_, refl, sym, ap, _∙_, subst}
+use Prim.Native.Nat.{ℕ, suc, _+_, _-_, _≤_, _<_}
 use native.Mathlib.Omega.{arith}
-use mathlib.Core.Bool.{Bool, true, false, not}
+use mathlib.Core.Bool.{false}
 use mathlib.Core.List.{List, [], _∷_, _++_, map, append-nil}
-use lib.ListN.{length, take, length-append, length-map, length-set}
-use lib.Dec.{T, lt→ltb}
+use lib.ListN.{length, take, length-append}
+use lib.Dec.{T}
 use Rattle.base.specs.Lists.{All}
-use Rattle.base.specs.BranchLaws.{and-i}
-use Rattle.base.specs.ListLaws.{all-all}
 use Rattle.rules.specs.Book.{Disjunct, Book, completedDisjunct}
 use Rattle.rules.specs.Reading.{Bytes}
 use Rattle.rules.specs.Sheet.{Model, Limits}
-use Rattle.rules.specs.Fire.{Strategy, linear, fair, places}
-use Rattle.rules.specs.Pool.{State, Scheduler, fifo, lifo, schedulerOf, strategyOf, numbers, used, free, changed}
+use Rattle.rules.specs.Pool.{State, schedulerOf, strategyOf, numbers, used, free, changed}
 use Rattle.rules.specs.Image.{poolBytes, mostSlots}
 use Rattle.rules.specs.Bound.{Bound}
 use Rattle.rules.specs.Child.{Child, child}
-use Rattle.rules.specs.Sound.{soundModel, soundSheet}
-use Rattle.rules.specs.Step.{Placed, placed, stored, openSlots, cutSlots, pushed, schedule, done, withPlaced}
+use Rattle.rules.specs.Sound.{soundModel}
+use Rattle.rules.specs.Step.{Placed, placed, stored, openSlots, cutSlots, done, withPlaced}
 use Rattle.images.specs.Storable.{SmallLimits}
-use Rattle.soundness.specs.Neat.{Neat}
 use Rattle.soundness.specs.Model.{sound-neat}
 use Rattle.soundness.specs.Book.{SmallNames}
-use Rattle.pools.specs.Count.{cnt, cnt-all}
-use Rattle.pools.specs.Slots.{stored-length, Free, free-are, free-once, placed-length, placed-all, placed-slots, placed-cnt, placed-low, placed-differ}
-use Rattle.pools.specs.Tidy.{Listed, placesOf, Tidy}
+use Rattle.pools.specs.Count.{cnt-all}
+use Rattle.pools.specs.Slots.{stored-length, Free, free-are}
+use Rattle.pools.specs.Tidy.{placesOf, Tidy}
 use Rattle.pools.specs.Moves.{placed-tidy}
 use Rattle.pools.specs.Steps.{new-ones}
 use Rattle.demands.specs.Shape.{storable-model, byte-model, tidy-storable, tidy-bytes, places-few}
@@ -36,7 +31,7 @@ use Rattle.texts.specs.Names.{namesIn}
 use Rattle.texts.specs.Text.{DisjunctText}
 use Rattle.texts.specs.Parts.{disjuncts-grow}
 use Rattle.skips.specs.Rest.{Skips}
-use Rattle.deriving.specs.Derived.{Parent, DisjunctHere, DisjunctsHere}
+use Rattle.deriving.specs.Derived.{Parent, DisjunctsHere}
 use Rattle.lists.specs.Moves.{Imaged, Room, scheduled-none}
 use Rattle.adopting.specs.Slots.{Fitting}
 use Rattle.offspring.specs.One.{PlacedOne}

@@ -2,11 +2,10 @@
 -- a pool of zeros.
 use mathlib.Core.Path.{_≡_, refl, sym, ap, ap₂, _∙_, subst}
 use Prim.Native.Nat.{ℕ, zero, suc, _+_, _-_, _*_, _/_, _≤_, _<_}
-use native.Mathlib.Nat.{mul-zero, mul-suc}
 use native.Mathlib.Decide.{decLe}
 use native.Mathlib.Omega.{arith}
 use mathlib.Core.Bool.{Bool, true, false, _&&_}
-use mathlib.Core.List.{List, [], _∷_, _++_, map}
+use mathlib.Core.List.{_++_, map}
 use lib.ListN.{length, set, replicate, replicate-append-replicate}
 use lib.Dec.{T, leb, ltb, eqb}
 use borrow.Author.Tests.{ltb-true, lt-ltb, le-ltb, le-leb, lt-leb, eq-eqb, ne-eqb}
@@ -14,12 +13,11 @@ use Rattle.base.specs.Branch.{if}
 use Rattle.base.specs.Lists.{flat}
 use Rattle.rules.specs.Book.{Book}
 use Rattle.rules.specs.Reading.{Bytes, Read, got, refused, caseRead, readBook}
-use Rattle.rules.specs.Sheet.{Sheet, blank, limits}
-use Rattle.rules.specs.Pool.{State, opened, schedulers, strategies}
+use Rattle.rules.specs.Sheet.{blank, limits}
+use Rattle.rules.specs.Pool.{opened, schedulers, strategies}
 use Rattle.rules.specs.Image.{word, long, padded, poolMark, mostSlots, poolHead, poolBytes, headSize, sheetSize, slotsIn, sheetBytes}
 use Rattle.rules.specs.Calls.{rightLength, checked, Outcome, outcome, openCall, OpenPromise}
 use Rattle.images.specs.Sheets.{blank-zero}
-use Rattle.numbers.specs.Answers.{checked-ends, checked-refused}
 use Rattle.poolcheck.specs.Books.{right-slots}
 use Rattle.sheetparts.specs.Ways.{on}
 use Rattle.openings.specs.Order.{firstRefusal, first-refuses, none-refused}

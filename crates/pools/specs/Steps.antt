@@ -1,18 +1,16 @@
 -- What a step does to a tidy state, case by case, and that every step, run, take and opening leaves a tidy state.
 -- That children are sound is a parameter here; the crate `soundness` shows it.
 use mathlib.Core.Path.{_≡_, refl, sym, ap, _∙_, subst}
-use Prim.Native.Nat.{ℕ, zero, suc, _+_, _≤_, _<_, max}
-use native.Mathlib.Nat.{le-refl, le-trans, mod-lt}
+use Prim.Native.Nat.{ℕ, zero, suc, _+_, _≤_, _<_}
+use native.Mathlib.Nat.{le-trans, mod-lt}
 use native.Mathlib.Omega.{arith}
-use mathlib.Core.Bool.{Bool, true, false, not, _&&_}
-use mathlib.Core.Logic.{_⊎_, inl, inr, Lift}
-use mathlib.Core.Option.{Option, none, some, Option·none-ne-some}
+use mathlib.Core.Bool.{true, not, _&&_}
+use mathlib.Core.Option.{none, some}
 use mathlib.Core.List.{List, [], _∷_, _++_, map}
 use lib.ListN.{length, getD, length-map, replicate, length-replicate, length-set}
 use lib.Dec.{T, leb, ltb, le→leb, lt→ltb, nltb→le}
-use Rattle.base.specs.Branch.{if, caseO, caseL}
 use Rattle.base.specs.Lists.{All, any, isNil, from}
-use Rattle.base.specs.BranchLaws.{if-elim, caseO-elim, caseL-elim, and-l, and-r, and-i, or-no}
+use Rattle.base.specs.BranchLaws.{if-elim, caseO-elim, caseL-elim, and-l, and-i, or-no}
 use Rattle.base.specs.ListLaws.{all-any, all-both}
 use Rattle.rules.specs.Book.{Sequent, Book, rules}
 use Rattle.rules.specs.Sheet.{Model, Sheet, domain, empty, blank, Limits}

@@ -1,24 +1,21 @@
 -- Steps one after another: what is left of the definition's run after some of them.
-use mathlib.Core.Path.{_≡_, refl, sym, ap, _∙_, subst}
-use Prim.Native.Nat.{ℕ, zero, suc, _+_, _-_, _≤_, _<_}
+use mathlib.Core.Path.{_≡_, sym, ap, _∙_}
+use Prim.Native.Nat.{ℕ, suc, _+_, _-_, _≤_, _<_}
 use native.Mathlib.Omega.{arith}
-use mathlib.Core.Bool.{Bool, true, false}
-use lib.ListN.{length}
+use mathlib.Core.Bool.{Bool}
 use lib.Dec.{eqb}
 use borrow.Author.Tests.{eq-eqb, ne-eqb}
 use Rattle.base.specs.Branch.{if}
-use Rattle.rules.specs.Book.{Book, rules}
+use Rattle.rules.specs.Book.{rules}
 use Rattle.rules.specs.Reading.{Bytes}
 use Rattle.rules.specs.Sheet.{limits}
-use Rattle.rules.specs.Pool.{State}
 use Rattle.rules.specs.Image.{poolBytes}
-use Rattle.rules.specs.Step.{Answer, step, Ran, run}
-use Rattle.rules.specs.Calls.{boundOf, RunOutcome, runCall, RunPromise}
-use Rattle.pools.specs.Tidy.{Tidy}
+use Rattle.rules.specs.Step.{Ran, run}
+use Rattle.rules.specs.Calls.{boundOf, RunOutcome, RunPromise}
 use Rattle.pools.specs.Steps.{step-did, step-tidy, step-size}
-use Rattle.demands.specs.Kept.{Roomy, same-roomy, kids-sound}
-use Rattle.stepping.specs.Standing.{L, Standing, stepOf, Went, Stepped}
-use Rattle.running.specs.Verdict.{Verdict, runOf, afterRun, refused-same}
+use Rattle.demands.specs.Kept.{same-roomy, kids-sound}
+use Rattle.stepping.specs.Standing.{L, Standing, stepOf, Stepped}
+use Rattle.running.specs.Verdict.{Verdict, runOf, refused-same}
 
 abbrev pub RanFrom : Bytes → ℕ → ℕ → ℕ → Bytes → ℕ → ℕ → Bytes → Type 0
 RanFrom text bound number budget p stop steps p′ = (z : Standing text p)

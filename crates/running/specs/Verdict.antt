@@ -1,11 +1,11 @@
 -- Refusals 1 to 13 of step and run, and the step behind them.
 use mathlib.Core.Path.{_≡_, refl, sym, ap, _∙_, subst}
-use Prim.Native.Nat.{ℕ, zero, suc, _≤_, _<_}
+use Prim.Native.Nat.{ℕ, _≤_, _<_}
 use native.Mathlib.Omega.{arith}
 use mathlib.Core.Bool.{Bool, true, false, not, _&&_, _||_}
 use mathlib.Core.List.{List}
 use lib.ListN.{length}
-use lib.Dec.{T, ltb, eqb}
+use lib.Dec.{T, eqb}
 use borrow.Author.Tests.{lt-ltb, le-ltb, eq-eqb, ne-eqb, eqb-true, eqb-false}
 use Rattle.base.specs.Branch.{if}
 use Rattle.rules.specs.Book.{Book, rules}
@@ -14,7 +14,7 @@ use Rattle.rules.specs.Sheet.{limits}
 use Rattle.rules.specs.Pool.{State}
 use Rattle.rules.specs.Image.{poolBytes, poolIn}
 use Rattle.rules.specs.Sound.{sound}
-use Rattle.rules.specs.Step.{Answer, refuse, done, step, Ran, run}
+use Rattle.rules.specs.Step.{Answer, refuse, done, Ran, run}
 use Rattle.rules.specs.Calls.{rightLength, bounds, boundOf, knownBound, checked, soundly, Outcome, outcome, stepCall, RunOutcome, runCall, StepPromise}
 use Rattle.pools.specs.Steps.{Did, refusing, completing, failing, branching, step-did}
 use Rattle.demands.specs.Refusals.{book-refusal}

@@ -3,17 +3,16 @@ use mathlib.Core.Path.{_≡_, refl, sym, ap, ap₂, _∙_, subst}
 use Prim.Native.Nat.{ℕ, zero, suc, _+_, _≤_, _<_}
 use native.Mathlib.Nat.{le-trans}
 use native.Mathlib.Omega.{arith}
-use mathlib.Core.Bool.{Bool, true, false, not, _||_}
-use mathlib.Core.List.{List, [], _∷_, _++_, map}
-use mathlib.Core.Option.{Option, none, some}
+use mathlib.Core.Bool.{Bool, true, false, not}
+use mathlib.Core.List.{List, [], _∷_, map}
+use mathlib.Core.Option.{none}
 use lib.ListN.{length, getD, take, drop, length-map}
-use lib.Seq.{length-take-le}
 use lib.Dec.{T}
 use Rattle.base.specs.Lists.{All, any}
-use Rattle.base.specs.ListLaws.{In, in-mem, all-in, all-all, all-both, all-append, all-take, all-drop}
+use Rattle.base.specs.ListLaws.{all-all, all-both, all-append, all-take, all-drop}
 use Rattle.rules.specs.Book.{Disjunct, Sequent, Book, completedDisjunct, completed, rules}
 use Rattle.rules.specs.Reading.{Bytes, num}
-use Rattle.rules.specs.Sheet.{Model, Sheet, domain, known, limits}
+use Rattle.rules.specs.Sheet.{Model, known, limits}
 use Rattle.rules.specs.Fire as fire
 use Rattle.rules.specs.Fire.{firing, visits, placeAfter, places, numbered, linear, fair, Strategy}
 use Rattle.rules.specs.Pool.{State, strategyOf, numbers, sheetAt, used, free}
@@ -30,18 +29,18 @@ use Rattle.soundness.specs.Child.{domain-known}
 use Rattle.pools.specs.Count.{cnt-all}
 use Rattle.pools.specs.Slots.{free-more}
 use Rattle.pools.specs.Tidy.{placesOf}
-use Rattle.pools.specs.Steps.{strategyIn, visited, KidsSound, same-length, first-listed, place-right, none-over}
+use Rattle.pools.specs.Steps.{strategyIn, visited, same-length, place-right, none-over}
 use Rattle.pools.specs.Steps as pools
 use Rattle.demands.specs.Kept.{kids-sound}
 use Rattle.texts.specs.Names.{namesIn, countAt}
 use Rattle.texts.specs.Parts.{sequent-grows}
-use Rattle.firing.specs.Answers.{Elements, Rule}
+use Rattle.firing.specs.Answers.{Elements}
 use Rattle.evaluate.specs.Answers.{FiresAt}
 use Rattle.deriving.specs.Derived.{Parent, DisjunctsHere, AnyOver}
 use Rattle.adopting.specs.Slots.{Freed}
 use Rattle.offspring.specs.All.{Good, kidsOf}
-use Rattle.stepping.specs.Standing.{L, Standing, Went, ground, few, shows, names-are, small, strategy-is, count-is, Based, inside, neat, model-sound, carries}
-use Rattle.stepping.specs.Heads.{HeadAt, NextPlace, RoomFor, roomOf}
+use Rattle.stepping.specs.Standing.{L, Standing, Went, ground, few, shows, small, strategy-is, count-is, Based, inside, neat, model-sound, carries}
+use Rattle.stepping.specs.Heads.{NextPlace, RoomFor, roomOf}
 use Rattle.stepping.specs.Ways.{step-failed, step-kids, kids-over, kids-full, kids-placed}
 use Rattle.stepping.specs.Settling.{Parting, Settled}
 

@@ -1,9 +1,9 @@
 -- Where a sequent's head stands, the place that children get, and whether there is room for them.
 use mathlib.Core.Path.{_≡_, refl, sym, ap, _∙_, subst}
-use Prim.Native.Nat.{ℕ, zero, suc, _+_, _-_, _*_, _/_, _%_, _≤_, _<_}
+use Prim.Native.Nat.{ℕ, zero, suc, _+_, _-_, _/_, _%_, _≤_, _<_}
 use native.Mathlib.Nat.{mod-self, mod-eq-of-lt}
 use native.Mathlib.Omega.{arith}
-use mathlib.Core.List.{List, _++_}
+use mathlib.Core.List.{_++_}
 use lib.ListN.{length, getD, length-append}
 use lib.Dec.{ltb}
 use borrow.Author.Tests.{lt-ltb, le-ltb}
@@ -11,7 +11,7 @@ use Rattle.base.specs.Branch.{if}
 use Rattle.base.specs.Lists.{All}
 use Rattle.rules.specs.Book.{Sequent}
 use Rattle.rules.specs.Reading.{Bytes, num}
-use Rattle.rules.specs.Fire.{linear, fair, placeAfter}
+use Rattle.rules.specs.Fire.{placeAfter}
 use Rattle.rules.specs.Pool.{State, strategyOf, numbers, used, free}
 use Rattle.rules.specs.Image.{word, long, poolMark, poolHead, poolBytes, headSize, sheetSize}
 use Rattle.images.specs.Pools.{pool-length}

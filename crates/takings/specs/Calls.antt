@@ -1,18 +1,14 @@
 -- Take as a whole: the refusals 11, 12 and 13 behind the book's check, and the promise.
-use mathlib.Core.Path.{_≡_, refl, sym, ap, ap₂, _∙_, subst}
-use Prim.Native.Nat.{ℕ, _+_, _-_, _*_, _/_, _≤_, _<_}
-use native.Mathlib.Omega.{arith}
+use mathlib.Core.Path.{_≡_, sym, ap, _∙_, subst}
+use Prim.Native.Nat.{ℕ, _-_, _/_, _<_}
 use mathlib.Core.Bool.{Bool, true, false}
-use mathlib.Core.List.{List, []}
 use lib.ListN.{length}
 use lib.Dec.{T, ltb}
 use borrow.Author.Tests.{ltb-true}
-use Rattle.base.specs.Branch.{if, caseL}
 use Rattle.rules.specs.Book.{Book}
 use Rattle.rules.specs.Reading.{Bytes, Read, got, refused, caseRead, readBook}
 use Rattle.rules.specs.Sheet.{limits}
-use Rattle.rules.specs.Step.{lists, listOf}
-use Rattle.rules.specs.Image.{poolIn}
+use Rattle.rules.specs.Step.{lists}
 use Rattle.rules.specs.Sound.{sound}
 use Rattle.rules.specs.Calls.{rightLength, checked, soundly, TakeOutcome, takeOutcome, takeCall, TakePromise}
 use Rattle.texts.specs.Heads.{Accepted, accepted, ReadAs}

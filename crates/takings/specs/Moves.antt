@@ -1,9 +1,9 @@
 -- What take writes into the output: a copied slot.
 use mathlib.Core.Path.{_≡_, refl, sym, _∙_}
-use Prim.Native.Nat.{ℕ, suc, _+_, _≤_, _<_}
+use Prim.Native.Nat.{ℕ, suc, _+_, _<_}
 use native.Mathlib.Omega.{arith}
 use native.Mathlib.Numerals.{add-one}
-use mathlib.Core.List.{List, _++_}
+use mathlib.Core.List.{_++_}
 use lib.ListN.{length, getD, drop, set}
 use lib.Seq.{drop-cons, set-at, append-snoc}
 use Rattle.rules.specs.Reading.{Bytes}

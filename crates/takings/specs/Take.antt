@@ -1,12 +1,11 @@
 -- Take behind the book's check, and that what its loops write is the definition's outcome: the first sheet of a list is copied, its
 -- slot is all zero, and the list goes on behind it.
 use mathlib.Core.Path.{_≡_, refl, sym, ap, ap₂, _∙_, subst}
-use Prim.Native.Nat.{ℕ, zero, suc, _+_, _-_, _*_, _/_, _%_, _≤_, _<_}
+use Prim.Native.Nat.{ℕ, zero, suc, _+_, _-_, _*_, _≤_, _<_}
 use native.Mathlib.Omega.{arith}
-use mathlib.Core.Bool.{Bool, true, false, _&&_}
 use mathlib.Core.List.{List, [], _∷_, _++_, map, append-assoc}
 use lib.ListN.{length, getD, take, drop, replicate, length-append, length-replicate}
-use lib.Seq.{take-at, drop-at, drop-drop, length-take-le}
+use lib.Seq.{take-at, drop-at, drop-drop}
 use lib.Dec.{T, ltb, ltb→lt}
 use borrow.Author.Tests.{lt-ltb, le-ltb}
 use Rattle.base.specs.Branch.{if, caseL}
@@ -14,16 +13,15 @@ use Rattle.base.specs.Lists.{All, flat, from}
 use Rattle.base.specs.ListLaws.{all-map, all-getD}
 use Rattle.pools.specs.Count.{from-all}
 use Rattle.rules.specs.Book.{Book}
-use Rattle.rules.specs.Reading.{Bytes, Read, got, refused, caseRead, readBook}
+use Rattle.rules.specs.Reading.{Bytes}
 use Rattle.rules.specs.Sheet.{Sheet, blank, limits}
 use Rattle.rules.specs.Pool.{State, sheetAt, freed, changed}
 use Rattle.rules.specs.Step.{lists, listOf, taken}
-use Rattle.rules.specs.Image.{word, long, padded, poolMark, mostSlots, poolHead, poolBytes, sheetSize, part, listIn, sheetIn, sheetBytes, poolIn}
+use Rattle.rules.specs.Image.{long, poolHead, poolBytes, sheetSize, part, sheetIn, sheetBytes, poolIn}
 use Rattle.rules.specs.Sound.{sound}
-use Rattle.rules.specs.Calls.{rightLength, checked, soundly, TakeOutcome, takeOutcome, takeCall, TakePromise}
+use Rattle.rules.specs.Calls.{rightLength, TakeOutcome, takeOutcome}
 use Rattle.images.specs.Regions.{table-before, table-split, table-set}
 use Rattle.images.specs.Sheets.{blank-zero}
-use Rattle.texts.specs.Heads.{Accepted, accepted}
 use Rattle.sheetparts.specs.Loops.{upTo, up-next, up-end, every-at}
 use Rattle.sheetparts.specs.Tests.{byteAt}
 use Rattle.sheetparts.specs.Ways.{on, off}

@@ -1,17 +1,15 @@
 -- The head of a book: what is read of mark, version and names is what `namesIn` says, and the parts of an accepted book.
-use mathlib.Core.Path.{_≡_, refl, sym, ap, _∙_, subst}
-use Prim.Native.Nat.{ℕ, zero, suc, _+_, _*_, _≤_, _<_}
+use mathlib.Core.Path.{_≡_, sym, ap, _∙_, subst}
+use Prim.Native.Nat.{ℕ, zero, suc, _+_, _*_, _≤_}
 use native.Mathlib.Omega.{arith}
-use mathlib.Core.Bool.{not}
 use mathlib.Core.List.{List, [], _∷_}
 use lib.ListN.{length, getD}
-use lib.Dec.{T, ltb, eqb, ltb→lt, nltb→le, eqb→eq}
+use lib.Dec.{ltb, eqb, nltb→le, eqb→eq}
 use Rattle.base.specs.Branch.{if}
 use Rattle.base.specs.Lists.{All}
-use Rattle.base.specs.ListLaws.{all-all}
 use Rattle.rules.specs.Book.{Sequent, Names, Book}
-use Rattle.rules.specs.Reading.{Bytes, Read, got, refused, andThen, giving, many, num, number, ranged, markByte, mark, version, namesAt, sequentAt, ended, readBook}
-use Rattle.texts.specs.Reads.{Then, then-got, giving-got, then-agree, then-then, then-giving, if-passed, if-escaped, Number, number-got, ranged-got}
+use Rattle.rules.specs.Reading.{Bytes, Read, got, refused, andThen, giving, many, num, ranged, markByte, mark, version, namesAt, sequentAt, ended, readBook}
+use Rattle.texts.specs.Reads.{then-got, giving-got, then-agree, then-then, then-giving, if-passed, if-escaped, number-got, ranged-got}
 use Rattle.texts.specs.Names.{nums, relationsAt, witnessesAt, countAt, sequentsAt, namesIn}
 
 same-got : {A : Type 0} (a b : A) (p q : ℕ) → got a p ≡ got b q → (a ≡ b) × (p ≡ q)
