@@ -34,7 +34,7 @@ module _ (n : ℕ) (is₀ : List ℕ) (i : ℕ) (is : List ℕ) (c : Carries n i
     here : after n is₀ ≡ caseO (after n (getD is i 0 ∷ drop (suc i) is)) (λ _. none) (λ js. some (take i is ++ js))
     here = c ∙ ap (λ (l : List ℕ). caseO (after n l) (λ _. none) (λ js. some (take i is ++ js))) (drop-cons is i 0 h)
 
-    pub carries-stop : getD is i 0 + 1 < n → after n is₀ ≡ some (set is i (getD is i 0 + 1))
+    carries-stop : getD is i 0 + 1 < n → after n is₀ ≡ some (set is i (getD is i 0 + 1))
     unfolding caseO after if
     carries-stop l =
         here ∙ ap (λ b. caseO (if b (λ _. some (suc (getD is i 0) ∷ drop (suc i) is)) (λ _. caseO (after n (drop (suc i) is)) (λ _. none) (λ js. some (0 ∷ js)))) (λ _. none) (λ js. some (take i is ++ js))) (lt-ltb (suc (getD is i 0)) n (omega arith))

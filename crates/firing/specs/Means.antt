@@ -4,7 +4,7 @@ use Prim.Native.Nat.{ℕ, _+_, _≤_}
 use native.Mathlib.Omega.{arith}
 use mathlib.Core.List.{List, [], _∷_, _++_, map}
 use lib.Dec.{T}
-use lib.ListN.{length, take, length-append, length-map}
+use lib.ListN.{length, take, length-map}
 use Rattle.base.specs.Lists.{All, entries}
 use Rattle.base.specs.ListLaws.{all-map, all-append, all-all, map-map, map-append, firsts-all}
 use Rattle.rules.specs.Book.{Origin, Disjunct, Names}
@@ -69,7 +69,7 @@ unfolding domain
 domain-octets {d} {m} s =
     subst (All Octet) (sym (s .domainIs)) (firsts-all Octet (map (λ (x : Entry). x .1) (m .keys)) (all-map (FitsEntry (arityOf d)) Octet (λ (x : Entry). x .1) (λ x p. p .value) (m .keys) (s .keysFit)))
 
-pub shown-ready : (d : Names) (m : Model) (keys : List ℕ) (nk : ℕ) (facts : List ℕ) (nf : ℕ) (dom : List ℕ) (nd : ℕ)
+shown-ready : (d : Names) (m : Model) (keys : List ℕ) (nk : ℕ) (facts : List ℕ) (nf : ℕ) (dom : List ℕ) (nd : ℕ)
     → nk ≤ length keys → nf ≤ length facts → nd ≤ length dom → KeysRise (m .keys) → FactsRise (m .facts)
     → Sees d m (take nk keys) (take nf facts) (take nd dom) → TablesReady keys nk facts nf dom nd
 shown-ready d m keys nk facts nf dom nd a b c k f s = record {

@@ -1,11 +1,9 @@
 -- What a writer leaves: the buffer with a text in it from a place on, and the place behind. One law for texts behind each other.
-use mathlib.Core.Path.{_≡_, refl, sym, ap, ap₂, _∙_}
+use mathlib.Core.Path.{_≡_, refl, sym, ap, _∙_}
 use Prim.Native.Nat.{ℕ, _+_, _≤_, _<_}
-use native.Mathlib.Nat.{zero-add}
 use native.Mathlib.Omega.{arith}
 use mathlib.Core.List.{[], _∷_, _++_}
-use lib.ListN.{length, take, drop, set, length-append}
-use lib.Seq.{take-at}
+use lib.ListN.{length, set, length-append}
 use Rattle.rules.specs.Reading.{Bytes}
 use Rattle.octets.specs.Patch.{patched, patched-none, patched-length, patched-next, patched-one}
 
@@ -38,8 +36,3 @@ wrote-as {s} {n} {p} {t} {r} q e w = record { is = w .is ∙ ap (λ (x : Bytes).
 -- One byte.
 pub wrote-byte : (s : Bytes) (n x : ℕ) → n < length s → Wrote s n (x ∷ []) (set s n x) (n + 1)
 wrote-byte s n x h = record { is = patched-one s n x h; end = refl; within = omega arith }
-
--- A text from the front on is what stands before the place behind it.
-pub wrote-front : (s p t : Bytes) (r : ℕ) → Wrote s 0 p t r → take r t ≡ p
-unfolding patched
-wrote-front s p t r w = ap₂ (λ (n : ℕ) (l : Bytes). take n l) (w .end ∙ zero-add (length p)) (w .is) ∙ take-at p (drop (0 + length p) s) (length p) refl

@@ -3,7 +3,7 @@ use mathlib.Core.Path.{_≡_, refl, sym, ap, ap₂, _∙_}
 use Prim.Native.Nat.{ℕ, _<_, min}
 use native.Mathlib.Omega.{arith}
 use mathlib.Core.Bool.{Bool, true, false}
-use mathlib.Core.List.{List, [], _∷_, _++_, map, append-assoc, append-nil}
+use mathlib.Core.List.{List, [], _∷_, _++_, map, append-assoc}
 use lib.ListN.{length, drop, length-drop}
 use lib.Seq.{getD-drop, getD-take, length-take-le}
 use lib.Dec.{T}
@@ -12,10 +12,8 @@ use Rattle.base.specs.Lists.{mem, firsts, keep, from, flat}
 use Rattle.base.specs.ListLaws.{map-map, map-agree, mem-in, in-mem, firsts-some, firsts-all, all-in, all-mem, In}
 use Rattle.pools.specs.Count.{from-all}
 use Rattle.rules.specs.Reading.{Bytes, num}
-use Rattle.rules.specs.Sheet.{Sheet, Entry, Model, domain, known, limits}
-use Rattle.rules.specs.Image.{sheetBytes, keyIn, factIn, parts, sheetIn}
-use Rattle.images.specs.Storable.{StorableSheet, small-limits}
-use Rattle.images.specs.Sheets.{sheet-back}
+use Rattle.rules.specs.Sheet.{Entry, Model, domain, known, limits}
+use Rattle.rules.specs.Image.{keyIn, factIn, parts, sheetIn}
 use Rattle.lines.specs.Text.{keyLine, depthText, depthLine, factLine, told, modelLines, sheetLines, newline, fields}
 use Rattle.pages.specs.Tables.{keyText, factText, tableText, valuesIn, depthPart, depthsText}
 
@@ -97,8 +95,3 @@ module _ (s : Bytes) where
 pub sheet-parts : (w s : Bytes) → ((w ++ fields (num s 0 ∷ [])) ++ newline) ++ modelLines (sheetIn limits s .model) ≡ sheetLines w (sheetIn limits s)
 unfolding sheetLines sheetIn
 sheet-parts w s = simp append-assoc
-
--- The image of a sheet has the lines of that sheet.
-pub image-lines : (w s : Bytes) (x : Sheet) → StorableSheet limits x → s ≡ sheetBytes limits x → sheetLines w (sheetIn limits s) ≡ sheetLines w x
-image-lines w s x st e =
-    ap (sheetLines w) (ap (sheetIn limits) (e ∙ sym (append-nil (sheetBytes limits x))) ∙ sheet-back limits small-limits x st [])

@@ -1,6 +1,6 @@
 -- One law for each way out of walking over a literal, an origin, a disjunct and a sequent.
 use mathlib.Core.Path.{_≡_, refl, sym, ap, _∙_, subst}
-use Prim.Native.Nat.{ℕ, _+_, _-_, _*_, _≤_, _<_}
+use Prim.Native.Nat.{ℕ, _+_, _-_, _≤_, _<_}
 use native.Mathlib.Omega.{arith}
 use lib.ListN.{length, getD}
 use Rattle.rules.specs.Book.{nil, cons, fact, same, Disjunct, Sequent, Names}
@@ -42,14 +42,6 @@ module _ (n : Names) (s : Bytes) where
     unfolding LiteralText count
     literal-same r z h (fact g ts) e x l = absurd (z (x .0))
     literal-same r z h (same t u) e x l = h (cons t (cons u nil)) e (x .1) refl l
-
-    -- ---- origins
-
-    pub origin-past : (r : ℕ) → length s < at + 6 + 2 * num s (at + 4) → Skips (OriginText n s) (length s) at r
-    origin-past r h x e t l = let c = t .count in let q = t .next in absurd (omega arith)
-
-    pub origin-end : Skips (OriginText n s) (length s) at (at + 6 + 2 * num s (at + 4))
-    origin-end x e t l = let c = t .count in let q = t .next in omega arith
 
     -- ---- disjuncts
 

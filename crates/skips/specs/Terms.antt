@@ -80,9 +80,6 @@ abbrev pub Awaits : Names → Bytes → ℕ → ℕ → ℕ → ℕ → Type 0
 Awaits n s at k p left = (ts : Terms) (e : ℕ) → TermsText n s at ts e → count ts ≡ k → e ≤ length s → Coming n s p left e
 
 module _ (n : Names) (s : Bytes) (at k : ℕ) where
-  pub awaits-start : Awaits n s at k at k
-  awaits-start ts e h c l = record { terms = ts; stands = h; counted = c }
-
   pub awaits-next : (p left : ℕ) → 0 < left → Awaits n s at k p left → Awaits n s at k (p + 4) (left - 1 + belowAt n s p)
   awaits-next p left h a ts e x c l = coming-next n s p left e h (a ts e x c l)
 

@@ -1,21 +1,20 @@
 -- The image of a sheet, loaded, is a working form that holds the sheet; and a working form that holds a sheet is stored as the
--- sheet's image, in its slot and in the pool.
+-- sheet's image.
 use mathlib.Core.Path.{_≡_, refl, sym, ap, _∙_, subst}
 use Prim.Native.Nat.{ℕ, zero, suc, _+_, _-_, _*_, _/_, _%_, _^_, _<_, min}
 use native.Mathlib.Omega.{arith}
 use mathlib.Core.List.{List, [], _∷_, _++_, map, append-assoc}
-use lib.ListN.{length, getD, take, drop, replicate, length-map}
+use lib.ListN.{length, getD, drop, replicate, length-map}
 use Rattle.base.specs.Lists.{flat}
 use Rattle.base.specs.ListLaws.{map-map, map-agree, all-both, all-getD-or}
 use Rattle.rules.specs.Reading.{Bytes, num}
 use Rattle.rules.specs.Sheet.{Fact, Entry, Sheet, Limits}
-use Rattle.rules.specs.Image.{word, padded, keyBytes, factBytes, sheetHead, sheetBytes, sheetSize, parts, keyIn, factIn, sheetIn}
+use Rattle.rules.specs.Image.{word, padded, keyBytes, factBytes, sheetHead, sheetBytes, parts, keyIn, factIn, sheetIn}
 use Rattle.images.specs.Regions.{padded-next, table-length}
 use Rattle.images.specs.Storable.{SmallLimits, FewKey, FewFact, StorableSheet, Octet, ByteKey, ByteFact, ByteSheet}
-use Rattle.images.specs.Sheets.{sheet-back, sheet-length}
+use Rattle.images.specs.Sheets.{sheet-back}
 use Rattle.packing.specs.Pack.{packEntry, packFact, factEntry, key-digits, fact-digits}
 use Rattle.packing.specs.Replace.{eight, Eight, pack-eight}
-use Rattle.octets.specs.Patch.{patched}
 use Rattle.octets.specs.Words.{numberAt, numbersAt, numbers-table, octets, octet, octet-all}
 use Rattle.sheets.specs.Form.{viewOf, Shows, Holds}
 use Rattle.sheets.specs.Load.{viewIn, Loaded}
@@ -163,11 +162,3 @@ module _ (lim : Limits) (x : Sheet) (st : StorableSheet lim x) (bs : ByteSheet x
       let ds : flat (map octet (v .depths)) ≡ m .depths = ap (λ (l : List ℕ). flat (map octet l)) (s .depths) ∙ octet-all (m .depths) (bs .depths) in
       λ i. (word (s .number i) ++ (word (s .place i) ++ (word (s .created i) ++ (word (lk i) ++ (word (lf i) ++ replicate 6 0)))))
       ++ (padded (8 * lim .keys) (flat (ks i)) ++ (padded (8 * lim .facts) (flat (fs i)) ++ padded (lim .elements) (ds i)))
-
-  -- In the pool: what stands before the slot and behind it is as it was.
-  pub put-image : (w p : List ℕ) (a : ℕ) → Holds lim w x
-      → patched a (viewBytes lim (viewOf lim w)) p ≡ take a p ++ sheetBytes lim x ++ drop (a + sheetSize lim) p
-  unfolding patched
-  put-image w p a h =
-      ap (λ (l : Bytes). take a p ++ l ++ drop (a + length l) p) (stored-image w h)
-      ∙ ap (λ n. take a p ++ sheetBytes lim x ++ drop (a + n) p) (sheet-length lim x st)

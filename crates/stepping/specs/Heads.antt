@@ -46,9 +46,6 @@ module _ (strategy i n : ℕ) where
   unfolding placeAfter strategyOf
   place-linear e h = subst (λ k. 0 ≡ placeAfter (strategyOf k) i n) (sym e) refl
 
-  pub place-beyond : n ≤ i → NextPlace strategy i n 0
-  place-beyond l h = absurd (omega arith)
-
   module _ (f : strategy ≡ 0 → ⊥) where
     by-fair : (r : ℕ) → r ≡ suc i % n → NextPlace strategy i n r
     unfolding placeAfter strategyOf

@@ -119,7 +119,7 @@ named : (c w : ℕ) (fs gs rs qs ws xs : List ℕ) → fs ≡ gs → rs ≡ qs �
     (record { constants = c; functions = gs; relations = qs; constantWitnesses = w; functionWitnesses = xs })
 named c w fs gs rs qs ws xs p q r = rw (p, q, r)
 
-pub names-got : (s : Bytes) (n : Names) (e : ℕ) → 5 ≤ length s → namesAt s 5 ≡ got n e → Head s n e
+names-got : (s : Bytes) (n : Names) (e : ℕ) → 5 ≤ length s → namesAt s 5 ≡ got n e → Head s n e
 unfolding namesIn relationsAt witnessesAt countAt aritiesAt nums
 names-got s n e l h =
     let t = then-got _ _ _ _ (sym (names-rows s 5) ∙ h) in

@@ -5,4 +5,3 @@ pub mod Heads
 pub mod Text
 pub mod Texts
 pub mod Parts
-pub mod Walks
