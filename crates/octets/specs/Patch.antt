@@ -7,7 +7,7 @@ use native.Mathlib.Numerals.{add-one}
 use mathlib.Core.List.{List, [], _∷_, _++_, append-assoc, append-nil, map}
 use lib.ListN.{length, getD, take, drop, set, replicate, length-append, length-take, length-drop, take-append-drop, drop-of-length-le, replicate-append-replicate, getD-replicate}
 use lib.Seq.{drop-drop, take-suc, length-take-le, take-at, drop-append-add, take-all, set-split, append-snoc}
-use borrow.Rule.Slice.PartMut.{putMid}
+use borrow.Rule.Slice.PartMut.{putMid, midOf, mid-len}
 use Rattle.base.specs.Lists.{flat}
 use Rattle.base.specs.ListLaws.{map-append}
 use Rattle.rules.specs.Image.{padded}
@@ -49,6 +49,10 @@ pub patched-part : (a k : ℕ) (p s : List ℕ) → length p ≡ k → putMid a 
 unfolding patched
 patched-part a k p s e =
     ap (λ (x : List ℕ). take a s ++ (p ++ x)) (drop-drop k a s ∙ ap (λ n. drop (a + n) s) (sym e)) ∙ sym (append-assoc (take a s) p _)
+
+-- So it is where k entries were lent and q came back.
+pub patched-lent : (a k : ℕ) (p q s : List ℕ) → a + k ≤ length s → length p ≡ length (midOf a (a + k - a) s) → p ≡ q → putMid a (a + k - a) s p ≡ patched a q s
+patched-lent a k p q s h l e = patched-part a (a + k - a) p s (l ∙ mid-len a (a + k) s h) ∙ ap (λ x. patched a x s) e
 
 -- ---- tables written entry by entry, each in so many bytes
 

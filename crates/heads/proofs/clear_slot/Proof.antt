@@ -1,10 +1,10 @@
 use native.Mathlib.Omega.{arith}
 use borrow.Author.Needs.{needs}
-use borrow.Rule.Slice.PartMut.{mid-len}
+use borrow.Rule.Slice.PartMut.{midOf, mid-len}
 use mathlib.Core.Path.{_≡_, ap, _∙_}
-use Prim.Native.Nat.{_+_, _-_, _*_, _≤_}
-use lib.ListN.{length, take, drop, replicate}
-use Rattle.octets.specs.Patch.{patched, patched-part}
+use Prim.Native.Nat.{_+_, _-_, _*_}
+use lib.ListN.{length, replicate}
+use Rattle.octets.specs.Patch.{patched-lent}
 use Rattle.heads.proofs.clear_slot.Statement.{statement}
 use Rattle.heads.proofs.clear_slot.Tie as tie
 use Rattle.heads.proofs.clear_slot.Reads as reads
@@ -52,17 +52,11 @@ same-length c = search needs
 
 returns : tie.Need-returns
 returns c =
-    let f = c .before .before in
-    let s = c .before .before .before .before .before in
-    let a = s .args in
+    let a = c .before .before .before .before .before .args in
     let size = 16 + 8 * a .lk + 8 * a .lf + a .le in
     let at = 208 + size * a .i in
-    let k = at + size - at in
-    let ys = f .clear .last .0 in
-    let m : length (take k (drop at (a .pool .now))) ≡ k = mid-len at (at + size) (a .pool .now) (omega arith) in
-    let n : k ≡ size = omega arith in
-    let z : length ys ≡ k = c .before .pool .given .0 ∙ m in
-    patched-part at k ys (a .pool .now) z ∙ ap (λ l. patched at l (a .pool .now)) (f .clear .ensures ∙ ap (λ j. replicate j 0) (m ∙ n))
+    let k : length (midOf at (at + size - at) (a .pool .now)) ≡ size = mid-len at (at + size) (a .pool .now) (omega arith) ∙ omega arith in
+    patched-lent at size _ _ (a .pool .now) (omega arith) (c .before .pool .given .0) (c .before .before .clear .ensures ∙ ap (λ j. replicate j 0) k)
 
 pub clear-slot-spec : {M : Type 1} → statement M
 clear-slot-spec =

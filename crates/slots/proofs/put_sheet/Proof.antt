@@ -1,9 +1,6 @@
-use Prim.Native.Nat.{_+_, _-_, _*_}
-use mathlib.Core.Path.{_≡_, ap, _∙_}
+use Prim.Native.Nat.{_+_, _*_}
 use native.Mathlib.Omega.{arith}
-use lib.ListN.{length}
-use borrow.Rule.Slice.PartMut.{mid-len}
-use Rattle.octets.specs.Patch.{patched, patched-part}
+use Rattle.octets.specs.Patch.{patched-lent}
 use borrow.Author.Needs.{needs}
 use Rattle.slots.proofs.put_sheet.Statement.{statement}
 use Rattle.slots.proofs.put_sheet.Tie as tie
@@ -52,15 +49,9 @@ same-length c = search needs
 
 returns : tie.Need-returns
 returns c =
-    let f = c .before .before in
-    let s = c .before .before .before .before .before .before in
-    let a = s .args in
+    let a = c .before .before .before .before .before .before .args in
     let size = 16 + 8 * a .lk + 8 * a .lf + a .le in
-    let at = 208 + size * a .i in
-    let k = at + size - at in
-    let ys = f .store-sheet .last .1 .0 in
-    let z : length ys ≡ k = c .before .pool .given .0 ∙ mid-len at (at + size) (a .pool .now) (omega arith) in
-    patched-part at k ys (a .pool .now) z ∙ ap (λ l. patched at l (a .pool .now)) (f .store-sheet .ensures)
+    patched-lent (208 + size * a .i) size _ _ (a .pool .now) (omega arith) (c .before .pool .given .0) (c .before .before .store-sheet .ensures)
 
 pub put-sheet-spec : {M : Type 1} → statement M
 put-sheet-spec =
