@@ -12,7 +12,8 @@ use Rattle.base.specs.Branch.{if}
 use Rattle.base.specs.BranchLaws.{if-elim, neqb→ne}
 use Rattle.rules.specs.Sheet.{Model}
 use Rattle.rules.specs.Bound.{History}
-use Rattle.rules.specs.Merge.{rename, renameEntry, Pair, renamePair, mergeInto, mergeAll, lowered, merge}
+use Rattle.rules.specs.Merge.{rename, renameEntry, Pair, renamePair, inOrder, mergeInto, mergeAll, lowered, merge}
+use Rattle.laws.specs.InOrder.{inOrder-length}
 use Rattle.congruence.specs.Filing.{refile-length}
 
 -- ---- renaming the larger of two elements to the smaller
@@ -45,7 +46,8 @@ unfolding mergeInto
 round-length p m ps =
     let s = min (p .0) (p .1) in
     let l = max (p .0) (p .1) in
-    let r = refile-length (map (renameEntry s l) (m .keys)) ([], map (renamePair s l) ps) in
+    let r = refile-length (inOrder (map (renameEntry s l) (m .keys))) ([], map (renamePair s l) ps) in
+    let o = inOrder-length (map (renameEntry s l) (m .keys)) in
     let u = length-map (m .keys) (renameEntry s l) in
     let v = length-map ps (renamePair s l) in omega arith
 

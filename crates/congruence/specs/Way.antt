@@ -12,8 +12,9 @@ use Rattle.base.specs.Lists.{All, Some}
 use Rattle.base.specs.ListLaws.{all-all, all-map, all-unmap, all-in, some-some, some-map, In}
 use Rattle.rules.specs.Sheet.{Key, Fact, Entry, Model}
 use Rattle.rules.specs.Bound.{History}
-use Rattle.rules.specs.Merge.{rename, renameEntry, renameFact, Pair, renamePair, refile, refact, mergeInto}
+use Rattle.rules.specs.Merge.{rename, renameEntry, renameFact, Pair, renamePair, inOrder, refile, refact, mergeInto}
 use Rattle.laws.specs.Tables.{KeysRise, refile-all, refile-rises, refact-all}
+use Rattle.laws.specs.InOrder.{inOrder-all, inOrder-has}
 use Rattle.soundness.specs.Tools.{some-meets}
 use Rattle.congruence.specs.Forced.{Congruence, args-related}
 use Rattle.congruence.specs.Images.{keyImage, entryImage, factImage, key-twice, entry-twice, fact-twice, entry-self, fact-self, From, from-on, self-from, self-there}
@@ -85,7 +86,8 @@ module _ (a b : ℕ) (m n : Model) (h : History) (p : Pair) (ps : List Pair) (w 
     keysThere = λ c o. all-all (λ (x : Entry). Some (There (λ e. c (r e)) h x) (n .keys)) (λ (x : Entry). Some (There c hr x) (refile xs ([], qs) .0))
         (λ x u. refile-has (There c hr x) xs ([], qs)
         (all-all (OneColour c) (λ (q : Pair). (k : Key) → There c hr x (k, q .0) → There c hr x (k, q .1)) (λ q e k t. (t .0, sym e ∙ t .1)) (refile xs ([], qs) .1) o)
-        (inl (some-map (There (λ e. c (r e)) h x) (There c hr x) (renameEntry s l) (λ y t. (ap (keyImage r) (t .0) ∙ key-twice r h (x .0), t .1)) (n .keys) u)))
+        (inl (inOrder-has (There c hr x) (map (renameEntry s l) (n .keys))
+        (some-map (There (λ e. c (r e)) h x) (There c hr x) (renameEntry s l) (λ y t. (ap (keyImage r) (t .0) ∙ key-twice r h (x .0), t .1)) (n .keys) u))))
         (m .keys) (w .keysThere (λ e. c (r e)) (colours c o));
     factsFrom = refact-all (From (factImage hr) (m .facts)) fs []
         (all-map (From (factImage h) (m .facts)) (From (factImage hr) (m .facts)) (renameFact s l)
@@ -118,7 +120,7 @@ module _ (a b : ℕ) (m n : Model) (h : History) (p : Pair) (ps : List Pair) (w 
       hr e = r (h e)
 
       xs : List Entry
-      xs = map (renameEntry s l) (n .keys)
+      xs = inOrder (map (renameEntry s l) (n .keys))
 
       fs : List Fact
       fs = map (renameFact s l) (n .facts)
@@ -127,8 +129,9 @@ module _ (a b : ℕ) (m n : Model) (h : History) (p : Pair) (ps : List Pair) (w 
       qs = map (renamePair s l) ps
 
       renamed : All (From (entryImage hr) (m .keys)) xs
-      renamed = all-map (From (entryImage h) (m .keys)) (From (entryImage hr) (m .keys)) (renameEntry s l)
-          (from-on (entryImage h) (entryImage r) (entryImage hr) (entry-twice r h) (m .keys)) (n .keys) (w .keysFrom)
+      renamed = inOrder-all (From (entryImage hr) (m .keys)) (map (renameEntry s l) (n .keys))
+          (all-map (From (entryImage h) (m .keys)) (From (entryImage hr) (m .keys)) (renameEntry s l)
+          (from-on (entryImage h) (entryImage r) (entryImage hr) (entry-twice r h) (m .keys)) (n .keys) (w .keysFrom))
 
       colours : (c : ℕ → ℕ) → All (OneColour c) (refile xs ([], qs) .1) → All (OneColour (λ e. c (r e))) (p ∷ ps)
       colours c o = (ap c (one-renamed p), all-unmap (OneColour c) (renamePair s l) ps (refile-kept (OneColour c) xs ([], qs) o))

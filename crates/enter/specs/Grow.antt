@@ -16,10 +16,11 @@ use Rattle.sheets.specs.Form.{View, viewOf, Formed, keysAt, factsAt, depthsAt, 
 
 -- ---- what is asked of a form, whatever it holds
 
--- Its counts are within the limits, elements are digits, and its keys and facts rise.
+-- Its counts are within the limits, elements are digits, room for keys will do for facts, and keys and facts rise.
 pub record Sturdy (lim : Limits) (w : List ℕ) : Type 0 where
   pub formed : Formed lim w
   pub few : lim .elements ≤ 256
+  pub even : lim .facts ≤ lim .keys
   pub rising : Rising (viewOf lim w .keys)
   pub held : Rising (viewOf lim w .facts)
 
@@ -152,6 +153,7 @@ module _ (lim : Limits) (k d n x : ℕ) (w ys : List ℕ) (s : Sturdy lim w) (ek
       facts = omega (arith, other 4 (omega arith) (λ e. omega arith) (λ e. omega arith), s .formed .facts);
     };
     few = s .few;
+    even = s .even;
     rising = subst (λ (v : View). Rising (v .keys)) (sym view-is) (unfold grown in put-rises x (viewOf lim w .keys) (s .rising));
     held = subst (λ (v : View). Rising (v .facts)) (sym view-is) (unfold grown in s .held);
   }

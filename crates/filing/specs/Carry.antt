@@ -1,19 +1,22 @@
--- Renaming and filing on numbers are the document's, through packing.
+-- Renaming, ordering and filing on numbers are the document's, through packing.
 use mathlib.Core.Path.{_≡_, refl, sym, ap, ap₂, _∙_}
-use Prim.Native.Nat.{ℕ, _+_, _*_, _/_, _%_, _^_, _<_}
+use Prim.Native.Nat.{ℕ, _+_, _*_, _/_, _%_, _^_, _<_, compare, Ordering, Ordering·lt, Ordering·eq, Ordering·gt}
 use native.Mathlib.Omega.{arith}
 use mathlib.Core.Option.{Option, none, some}
 use mathlib.Core.List.{List, [], _∷_, map}
-use Rattle.base.specs.Branch.{caseO}
+use Rattle.base.specs.Branch.{caseO, three}
 use Rattle.base.specs.Lists.{All}
 use Rattle.base.specs.ListLaws.{map-map, map-agree}
 use Rattle.rules.specs.Sheet.{Fact, Entry, find, insertFact}
-use Rattle.rules.specs.Merge.{rename, renameEntry, renameFact, Pair, renamePair, Filed, file, refile, refact}
+use Rattle.rules.specs.Merge.{rename, renameEntry, renameFact, Pair, renamePair, entryOrder, insertEntry, inOrder, Filed, file, refile, refact}
 use Rattle.laws.specs.Tables.{insertKey-all, insertFact-all}
-use Rattle.packing.specs.Pack.{packEntry, packFact, factEntry, FitsEntry}
+use Rattle.laws.specs.InOrder.{inOrder-all}
+use Rattle.packing.specs.Compare.{ways, compare-lt, compare-eq, compare-gt}
+use Rattle.packing.specs.Pack.{packKey, packEntry, packFact, factEntry, FitsEntry, key-order}
 use Rattle.packing.specs.Replace.{keyOf, argOf, replaced, eight-of, key-of, value-of, pack-rename, fact-rename, rename-zero}
 use Rattle.tables.specs.Table.{lookIn}
 use Rattle.tables.specs.Carry.{FitsFact, find-is, insert-is, facts-insert-is}
+use Rattle.renaming.specs.Order.{insertIn, orderIn}
 use Rattle.filing.specs.File.{Files, fileIn, refileIn, refactIn}
 
 -- ---- pairs
@@ -57,6 +60,38 @@ module _ (arity : ℕ → ℕ → ℕ) (s l : ℕ) (h : s < l) where
       map-map packFact (renameFact s l) xs
       ∙ map-agree (FitsFact arity) (λ x. packFact (renameFact s l x)) (λ x. replaced s l (packFact x)) (λ x p. fact-rename s l x h (eight-of (factEntry x) p)) xs a
       ∙ sym (map-map (replaced s l) packFact xs)
+
+-- ---- in order
+
+-- Packed entries are ordered as entries are.
+entry-order-is : (arity : ℕ → ℕ → ℕ) (x y : Entry) → FitsEntry arity x → FitsEntry arity y → entryOrder x y ≡ compare (packEntry x) (packEntry y)
+unfolding packEntry three
+entry-order-is arity x y p q =
+    ap (λ o. three o (λ _. Ordering·lt) (λ _. compare (x .1) (y .1)) (λ _. Ordering·gt)) (key-order (x .0) (y .0) (p .key) (q .key))
+    ∙ ways (λ o. three o (λ _. Ordering·lt) (λ _. compare (x .1) (y .1)) (λ _. Ordering·gt) ≡ compare (packKey (x .0) * 256 + x .1) (packKey (y .0) * 256 + y .1)) (packKey (x .0)) (packKey (y .0))
+    (λ h. sym (compare-lt _ _ (omega (arith, p .value))))
+    (λ h. ways (λ o. o ≡ compare (packKey (x .0) * 256 + x .1) (packKey (y .0) * 256 + y .1)) (x .1) (y .1)
+    (λ g. sym (compare-lt _ _ (omega arith))) (λ g. sym (compare-eq _ _ (omega arith))) (λ g. sym (compare-gt _ _ (omega arith))))
+    (λ h. sym (compare-gt _ _ (omega (arith, q .value))))
+
+module _ (arity : ℕ → ℕ → ℕ) where
+  entry-is : (x : Entry) (ys : List Entry) → FitsEntry arity x → All (FitsEntry arity) ys → map packEntry (insertEntry x ys) ≡ insertIn (packEntry x) (map packEntry ys)
+  unfolding insertEntry insertIn three
+  entry-is x [] p a = refl
+  entry-is x (y ∷ ys) p a =
+      through (entry-is x ys p (a .1)) (entryOrder x y) ∙ ap (λ o. three o (λ _. packEntry x ∷ packEntry y ∷ map packEntry ys) (λ _. packEntry y ∷ insertIn (packEntry x) (map packEntry ys))
+      (λ _. packEntry y ∷ insertIn (packEntry x) (map packEntry ys))) (entry-order-is arity x y p (a .0))
+    where
+      through : map packEntry (insertEntry x ys) ≡ insertIn (packEntry x) (map packEntry ys) → (o : Ordering) → map packEntry (three o (λ _. x ∷ y ∷ ys) (λ _. y ∷ insertEntry x ys) (λ _. y ∷ insertEntry x ys))
+          ≡ three o (λ _. packEntry x ∷ packEntry y ∷ map packEntry ys) (λ _. packEntry y ∷ insertIn (packEntry x) (map packEntry ys)) (λ _. packEntry y ∷ insertIn (packEntry x) (map packEntry ys))
+      through e Ordering·lt = refl
+      through e Ordering·eq = ap (λ (l : List ℕ). packEntry y ∷ l) e
+      through e Ordering·gt = ap (λ (l : List ℕ). packEntry y ∷ l) e
+
+  pub order-is : (xs : List Entry) → All (FitsEntry arity) xs → map packEntry (inOrder xs) ≡ orderIn (map packEntry xs)
+  unfolding inOrder orderIn
+  order-is [] a = refl
+  order-is (x ∷ xs) a = entry-is x (inOrder xs) (a .0) (inOrder-all (FitsEntry arity) xs (a .1)) ∙ ap (insertIn (packEntry x)) (order-is xs (a .1))
 
 -- ---- filing
 

@@ -1,6 +1,7 @@
 -- A table filed anew, entry by entry: of two values for one key the pair is kept, the newest first. The list that a loop works
--- on has the table in front and the pairs at its end, so that both grow towards the middle.
-use mathlib.Core.Path.{_≡_, refl, sym, ap, ap₂, _∙_, subst}
+-- on has the table in front and the pairs at its end, so that both grow towards the middle. The entries come in order, so that none
+-- that was filed is above one that is still to be.
+use mathlib.Core.Path.{_≡_, refl, sym, ap, ap₂, _∙_, subst, subst₂}
 use Prim.Native.Nat.{ℕ, suc, _+_, _-_, _*_, _≤_, _<_}
 use native.Mathlib.Omega.{arith}
 use mathlib.Core.Option.{Option}
@@ -8,9 +9,13 @@ use mathlib.Core.List.{List, [], _∷_}
 use lib.ListN.{length, getD, take, drop, set, length-set}
 use lib.Seq.{take-set-le, drop-set-lt, drop-cons, drop-drop, length-take-le, getD-set-same}
 use Rattle.base.specs.Branch.{caseO}
+use Rattle.base.specs.Lists.{All}
+use Rattle.base.specs.ListLaws.{all-all}
 use Rattle.packing.specs.Replace.{keyOf, valueOf}
-use Rattle.tables.specs.Table.{lookIn, putIn, Rising, orNone, put-rises, look-some, look-missing, put-known}
+use Rattle.tables.specs.Table.{lookIn, putIn, Rising, orNone, put-all, put-rises, look-some, look-missing, put-known}
 use Rattle.tables.specs.Ways.{Put, put-front, put-behind}
+use Rattle.tables.specs.Last.{NoneAbove}
+use Rattle.renaming.specs.Order.{Sorted}
 use Rattle.filing.specs.Front.{front-cons, front-end, behind-part}
 
 -- A table and the pairs, as numbers.
@@ -28,6 +33,24 @@ unfoldable pub refactIn : List ℕ → List ℕ → List ℕ
 refactIn [] done = done
 refactIn (x ∷ xs) done = refactIn xs (putIn x done)
 
+-- ---- keys rise
+
+pub refile-rises : (xs : List ℕ) (r : Files) → Rising (r .0) → Rising (refileIn xs r .0)
+unfolding refileIn fileIn
+refile-rises [] r g = g
+refile-rises (x ∷ xs) r g = refile-rises xs (fileIn x r) (put-rises x (r .0) g)
+
+pub refact-rises : (xs done : List ℕ) → Rising done → Rising (refactIn xs done)
+unfolding refactIn
+refact-rises [] done g = g
+refact-rises (x ∷ xs) done g = refact-rises xs _ (put-rises x done g)
+
+-- Entries whose keys rise are in order.
+pub rising-sorted : (xs : List ℕ) → Rising xs → Sorted xs
+unfolding Rising Sorted
+rising-sorted [] r = tt
+rising-sorted (x ∷ xs) r = (all-all (λ y. keyOf x < keyOf y) (λ y. x ≤ y) (λ y h. omega arith) xs (r .0), rising-sorted xs (r .1))
+
 -- ---- one entry
 
 -- What filing x does to a list whose table is the first n entries and whose pairs stand from top on.
@@ -39,6 +62,10 @@ pub record Filing (x n top : ℕ) (t : List ℕ) (count up : ℕ) (t′ : List �
   pub above : top ≤ up + 1
   pub below : up ≤ top
   pub sum : count + top ≤ n + 1 + up
+
+filed-table : {x n top : ℕ} {t : List ℕ} {count up : ℕ} {t′ : List ℕ} → Filing x n top t count up t′ → take count t′ ≡ putIn x (take n t)
+unfolding fileIn
+filed-table f = ap (λ (r : Files). r .0) (f .made)
 
 drop-set : (t : List ℕ) (j w : ℕ) → j < length t → drop j (set t j w) ≡ w ∷ drop (suc j) t
 drop-set t j w h =
@@ -118,6 +145,31 @@ pub record Refacted (n : ℕ) (t : List ℕ) (count : ℕ) (t′ : List ℕ) : T
   pub rising : Rising (take count t′)
   pub fewer : count ≤ n
 
+-- ---- in order
+
+-- What is still to be filed is in order, and nothing that was filed is above it.
+pub record Ahead (done rest : List ℕ) : Type 0 where
+  pub sorted : Sorted rest
+  pub above : All (λ y. All (λ z. y ≤ z) rest) done
+
+pub ahead-start : (xs : List ℕ) → Sorted xs → Ahead [] xs
+ahead-start xs s = record { sorted = s; above = tt }
+
+key-le : {a b : ℕ} → a ≤ b → keyOf a ≤ keyOf b
+key-le {a} {b} h = omega arith
+
+pub ahead-none : (done : List ℕ) (x : ℕ) (xs rest : List ℕ) → rest ≡ x ∷ xs → Ahead done rest → NoneAbove (keyOf x) done
+ahead-none done x xs rest e a = all-all (λ y. All (λ z. y ≤ z) rest) (λ y. keyOf y ≤ keyOf x) (λ y b. key-le (subst (All (λ z. y ≤ z)) e b .0)) done (a .above)
+
+ahead-next : (done : List ℕ) (x : ℕ) (xs rest : List ℕ) → rest ≡ x ∷ xs → Ahead done rest → Ahead (putIn x done) xs
+unfolding Sorted
+ahead-next done x xs rest e a =
+    let s : Sorted (x ∷ xs) = subst Sorted e (a .sorted) in
+    record {
+      sorted = s .1;
+      above = put-all (λ y. All (λ z. y ≤ z) xs) x done (s .0) (all-all (λ y. All (λ z. y ≤ z) rest) (λ y. All (λ z. y ≤ z) xs) (λ y b. subst (All (λ z. y ≤ z)) e b .1) done (a .above));
+    }
+
 -- ---- the loops: what is left gives what the whole would
 
 pub record Refiling (t₀ : List ℕ) (n top : ℕ) (t : List ℕ) (count up i : ℕ) : Type 0 where
@@ -128,12 +180,17 @@ pub record Refiling (t₀ : List ℕ) (n top : ℕ) (t : List ℕ) (count up i :
   pub sum : count + top ≤ i + up
   pub size : length t ≡ length t₀
   pub rising : Rising (take count t)
+  pub ahead : Ahead (take count t) (drop i (take n t))
   pub rest : refileIn (take n t₀) ([], drop top t₀) ≡ refileIn (drop i (take n t)) (take count t, drop up t)
 
 module _ (t₀ : List ℕ) (n top : ℕ) (room : n + n ≤ top) (fits : top ≤ length t₀) where
-  pub refiling-start : Refiling t₀ n top t₀ 0 top 0
+  pub refiling-start : Sorted (take n t₀) → Refiling t₀ n top t₀ 0 top 0
   unfolding Rising
-  refiling-start = record { passed = omega arith; fewer = omega arith; below = omega arith; above = omega arith; sum = omega arith; size = refl; rising = tt; rest = refl }
+  refiling-start s = record { passed = omega arith; fewer = omega arith; below = omega arith; above = omega arith; sum = omega arith; size = refl; rising = tt; ahead = ahead-start (take n t₀) s; rest = refl }
+
+  -- No entry that was filed is above the next.
+  pub refiling-none : (t : List ℕ) (count up i : ℕ) → Refiling t₀ n top t count up i → i < n → NoneAbove (keyOf (getD t i 0)) (take count t)
+  refiling-none t count up i r l = ahead-none (take count t) (getD t i 0) (drop (i + 1) (take n t)) _ (front-cons t n i (omega (arith, r .size)) l) (r .ahead)
 
   pub refiling-next : (t t′ : List ℕ) (count up i count′ up′ : ℕ) → Refiling t₀ n top t count up i → i < n → length t′ ≡ length t
       → Filing (getD t i 0) count up t count′ up′ t′ → Refiling t₀ n top t′ count′ up′ (i + 1)
@@ -145,6 +202,8 @@ module _ (t₀ : List ℕ) (n top : ℕ) (room : n + n ≤ top) (fits : top ≤ 
     sum = omega (arith, f .sum, r .sum);
     size = z ∙ r .size;
     rising = f .rising;
+    ahead = subst₂ Ahead (sym (filed-table f)) (sym (f .kept (i + 1) n (omega (arith, f .high, r .fewer)) (omega (arith, f .above, r .above))))
+        (ahead-next (take count t) (getD t i 0) (drop (i + 1) (take n t)) _ (front-cons t n i (omega (arith, r .size)) l) (r .ahead));
     rest = r .rest ∙ refile-next t t′ n i count up count′ up′ (omega (arith, r .size)) l f (r .fewer) (omega (arith, f .above, r .above));
   }
 
@@ -165,12 +224,16 @@ pub record Refacting (t₀ : List ℕ) (n : ℕ) (t : List ℕ) (count i : ℕ) 
   pub fewer : count ≤ i
   pub size : length t ≡ length t₀
   pub rising : Rising (take count t)
+  pub ahead : Ahead (take count t) (drop i (take n t))
   pub rest : refactIn (take n t₀) [] ≡ refactIn (drop i (take n t)) (take count t)
 
 module _ (t₀ : List ℕ) (n : ℕ) (fits : n ≤ length t₀) where
-  pub refacting-start : Refacting t₀ n t₀ 0 0
+  pub refacting-start : Sorted (take n t₀) → Refacting t₀ n t₀ 0 0
   unfolding Rising
-  refacting-start = record { passed = omega arith; fewer = omega arith; size = refl; rising = tt; rest = refl }
+  refacting-start s = record { passed = omega arith; fewer = omega arith; size = refl; rising = tt; ahead = ahead-start (take n t₀) s; rest = refl }
+
+  pub refacting-none : (t : List ℕ) (count i : ℕ) → Refacting t₀ n t count i → i < n → NoneAbove (keyOf (getD t i 0)) (take count t)
+  refacting-none t count i r l = ahead-none (take count t) (getD t i 0) (drop (i + 1) (take n t)) _ (front-cons t n i (omega (arith, r .size)) l) (r .ahead)
 
   pub refacting-next : (t t′ : List ℕ) (count i count′ : ℕ) → Refacting t₀ n t count i → i < n → length t′ ≡ length t
       → Put (getD t i 0) count t count′ t′ → Refacting t₀ n t′ count′ (i + 1)
@@ -179,6 +242,8 @@ module _ (t₀ : List ℕ) (n : ℕ) (fits : n ≤ length t₀) where
     fewer = omega (arith, p .high, r .fewer);
     size = z ∙ r .size;
     rising = subst Rising (sym (put-front p)) (put-rises (getD t i 0) (take count t) (r .rising));
+    ahead = subst₂ Ahead (sym (put-front p)) (sym (behind-part count′ (i + 1) n t t′ (put-behind p) (omega (arith, p .high, r .fewer))))
+        (ahead-next (take count t) (getD t i 0) (drop (i + 1) (take n t)) _ (front-cons t n i (omega (arith, r .size)) l) (r .ahead));
     rest = r .rest ∙ refact-next t t′ n i count count′ (omega (arith, r .size)) l p (r .fewer);
   }
 

@@ -15,6 +15,7 @@ use Rattle.rules.specs.Bound.{History}
 use Rattle.rules.specs.Merge.{rename, renameEntry, renameFact, Pair, renamePair, Filed, file, refile, mergeInto, mergeAll, lowered, merge}
 use Rattle.rules.specs.Arrangement.{Arrangement}
 use Rattle.laws.specs.Tables.{find-all, insertKey-all, refile-all, refact-all}
+use Rattle.laws.specs.InOrder.{inOrder-all}
 use Rattle.fitting.specs.Enter.{Low, KeyFits, FactFits, FitsBy, Has, Follows}
 
 -- Two created elements that have one thing.
@@ -87,7 +88,7 @@ module _ (A : Arrangement) (h : ℕ → ℕ) where
   unfolding mergeInto
   into-fits s l m ps f low one a =
       let n = m .created in
-      let ks = all-map _ (KeyFits A n h) (renameEntry s l) (entry-fits A n h s l low one) (m .keys) (f .keys) in
+      let ks = inOrder-all (KeyFits A n h) _ (all-map _ (KeyFits A n h) (renameEntry s l) (entry-fits A n h s l low one) (m .keys) (f .keys)) in
       let fs = all-map _ (FactFits A n h) (renameFact s l) (fact-fits A n h s l low one) (m .facts) (f .facts) in
       let qs = all-map _ (PairFits n h) (renamePair s l) (pair-fits A n h s l low one) ps a in (
         record { things = f .things; keys = refile-all (KeyFits A n h) _ _ ks tt; facts = refact-all (FactFits A n h) _ [] fs tt },

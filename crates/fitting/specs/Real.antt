@@ -17,7 +17,7 @@ use Rattle.rules.specs.Sheet.{key, Fact, rel, Entry, Model, Sheet, find, holds,
 use Rattle.rules.specs.Look.{originMeaning, bodyMeanings, headMeanings, lookMeaning, look, observed}
 use Rattle.rules.specs.Fire.{choices, bodyObserved, disjunctObserved, headObserved, fires, numbered, firing, linear, visits, placeAfter}
 use Rattle.rules.specs.Bound.{unbounded, admits, depthOver, depthAt, depthMeaning, depth, termsOf, admitted}
-use Rattle.rules.specs.Merge.{rename, renameEntry, renameFact, file, refile, refact, mergeDepths, mergeInto, mergeAll, lowerBy, sum, lower, lowered, merge}
+use Rattle.rules.specs.Merge.{rename, renameEntry, renameFact, insertEntry, inOrder, file, refile, refact, mergeDepths, mergeInto, mergeAll, lowerBy, sum, lower, lowered, merge}
 use Rattle.rules.specs.Child.{add, put, putMeaning, enter, tooBig, recorded, tell, tells, child}
 use Rattle.rules.specs.Pool.{State, schedulerOf, strategyOf, numbers, sheetAt, sheetsAt, used, free, opened, changed, freed}
 use Rattle.rules.specs.Step.{placed, stored, openSlots, cutSlots, pushed, schedule, refuse, done, withPlaced, withoutBase, withChildren, stepOn, step, run}
@@ -44,7 +44,7 @@ unfolding if caseO caseL three order mem without firsts keep firstOf from entrie
     find holds insertKey insertFact domain known empty blank limits originMeaning bodyMeanings headMeanings lookMeaning look observed
     choices bodyObserved disjunctObserved headObserved fires numbered firing visits placeAfter
     admits depthOver depthAt depthMeaning depth termsOf admitted
-    rename renameEntry renameFact file refile refact mergeDepths mergeInto mergeAll lowerBy sum lower lowered merge
+    rename renameEntry renameFact insertEntry inOrder file refile refact mergeDepths mergeInto mergeAll lowerBy sum lower lowered merge
     add put putMeaning enter tooBig recorded tell tells child
     schedulerOf strategyOf numbers sheetAt sheetsAt used free opened changed freed
     placed stored openSlots cutSlots pushed schedule refuse done withPlaced withoutBase withChildren stepOn step run models

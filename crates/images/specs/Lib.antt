@@ -1,4 +1,6 @@
--- An image read back is its state: lengths, reading back, bytes, and the parts of an image that code writes in place.
+-- An image read back is its state: lengths, reading back, bytes, the parts of an image that code writes in place, and lists of which all
+-- but one region is kept.
+pub mod Kept
 pub mod Regions
 pub mod Storable
 pub mod Sheets

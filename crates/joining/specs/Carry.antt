@@ -8,17 +8,20 @@ use lib.Dec.{eqb}
 use Rattle.base.specs.Branch.{if, caseL}
 use Rattle.base.specs.Lists.{All, from}
 use Rattle.base.specs.BranchLaws.{if-elim, if-true, if-false, caseO-elim, neqb→ne}
-use Rattle.base.specs.ListLaws.{map-map, map-agree, all-all, all-map}
-use Rattle.rules.specs.Sheet.{Entry, Model, find}
+use Rattle.base.specs.ListLaws.{map-map, map-agree, all-all, all-any, all-map}
+use Rattle.rules.specs.Sheet.{Fact, Entry, Model, find}
 use Rattle.rules.specs.Bound.{History}
-use Rattle.rules.specs.Merge.{rename, renameEntry, renameFact, Pair, renamePair, Filed, file, refile, refact, mergeInto, mergeAll, mergeDepths, lowered, merge, sum}
+use Rattle.rules.specs.Merge.{rename, renameEntry, renameFact, Pair, renamePair, inOrder, Filed, file, refile, refact, mergeInto, mergeAll, mergeDepths, lowered, merge, sum}
 use Rattle.laws.specs.Tables.{find-all, insertKey-all, refile-all, refact-all}
+use Rattle.laws.specs.InOrder.{inOrder-all}
 use Rattle.images.specs.Storable.{Octet}
 use Rattle.packing.specs.Pack.{packEntry, packFact, factEntry, FitsEntry}
-use Rattle.packing.specs.Replace.{replaced, Eight, eight-of, rename-fits, rename-octet, rename-zero}
+use Rattle.packing.specs.Replace.{replaced, Eight, eight-of, value-of, rename-fits, rename-octet, rename-zero}
 use Rattle.tables.specs.Carry.{FitsFact}
+use Rattle.renaming.specs.Order.{orderIn}
 use Rattle.filing.specs.File.{refileIn, refactIn}
-use Rattle.filing.specs.Carry.{packPair, packFiled, element-rename, pair-rename, keys-rename, facts-rename, refile-is, refact-is}
+use Rattle.filing.specs.Facts.{Plain, refact-order}
+use Rattle.filing.specs.Carry.{packPair, packFiled, element-rename, pair-rename, keys-rename, facts-rename, order-is, refile-is, refact-is}
 use Rattle.lowering.specs.Lower.{lowerIn}
 use Rattle.lowering.specs.Carry.{lower-is}
 use Rattle.joining.specs.Work.{Work, waiting, intoIn, nextIn, mergeAllIn, loweredIn}
@@ -50,6 +53,9 @@ module _ (arity : ℕ → ℕ → ℕ) (n s l : ℕ) (h : s < l) (b : s < 256) (
   keys-fit : All (FitsEntry arity) (map (renameEntry s l) (m .keys))
   keys-fit = all-map (FitsEntry arity) (FitsEntry arity) (renameEntry s l) (λ x p. rename-fits s l x b p) (m .keys) (g .keys)
 
+  ordered-fit : All (FitsEntry arity) (inOrder (map (renameEntry s l) (m .keys)))
+  ordered-fit = inOrder-all (FitsEntry arity) (map (renameEntry s l) (m .keys)) keys-fit
+
   facts-fit : All (FitsFact arity) (map (renameFact s l) (m .facts))
   unfolding renameFact renameEntry
   facts-fit = all-map (FitsFact arity) (FitsFact arity) (renameFact s l)
@@ -58,7 +64,7 @@ module _ (arity : ℕ → ℕ → ℕ) (n s l : ℕ) (h : s < l) (b : s < 256) (
   pub into-ready : Ready arity n (mergeInto s l m ps .0) (λ e. rename s l (now e))
   unfolding mergeInto
   into-ready = record {
-    keys = refile-all (FitsEntry arity) (map (renameEntry s l) (m .keys)) ([], map (renamePair s l) ps) keys-fit tt;
+    keys = refile-all (FitsEntry arity) (inOrder (map (renameEntry s l) (m .keys))) ([], map (renamePair s l) ps) ordered-fit tt;
     facts = refact-all (FitsFact arity) (map (renameFact s l) (m .facts)) [] facts-fit tt;
     history = all-all (λ e. Octet (now e)) (λ e. Octet (rename s l (now e))) (λ e p. rename-octet s l (now e) b p) (from 0 n) (g .history);
   }
@@ -75,16 +81,22 @@ module _ (arity : ℕ → ℕ → ℕ) (n s l : ℕ) (h : s < l) (b : s < 256) (
         map-agree (λ e. Octet (now e)) (λ e. rename s l (now e)) (λ e. replaced s l (now e)) (λ e p. sym (element-rename s l (now e) h p)) (from 0 n) (g .history)
         ∙ sym (map-map (replaced s l) now (from 0 n))
 
-    filed : packFiled (refile (map (renameEntry s l) (m .keys)) ([], map (renamePair s l) ps))
-        ≡ refileIn (map (replaced s l) (map packEntry (m .keys))) ([], map (replaced s l) (map packPair ps))
+    filed : packFiled (refile (inOrder (map (renameEntry s l) (m .keys))) ([], map (renamePair s l) ps))
+        ≡ refileIn (orderIn (map (replaced s l) (map packEntry (m .keys)))) ([], map (replaced s l) (map packPair ps))
     filed =
-        refile-is arity (map (renameEntry s l) (m .keys)) ([], map (renamePair s l) ps) keys-fit tt
-        ∙ ap₂ (λ (x y : List ℕ). refileIn x ([], y)) (keys-rename arity s l h (m .keys) (g .keys)) pairs-rename
+        refile-is arity (inOrder (map (renameEntry s l) (m .keys))) ([], map (renamePair s l) ps) ordered-fit tt
+        ∙ ap₂ (λ (x y : List ℕ). refileIn x ([], y)) (order-is arity (map (renameEntry s l) (m .keys)) keys-fit ∙ ap orderIn (keys-rename arity s l h (m .keys) (g .keys))) pairs-rename
 
-    facted : map packFact (refact (map (renameFact s l) (m .facts)) []) ≡ refactIn (map (replaced s l) (map packFact (m .facts))) []
+    -- A fact's value is 0, renamed or not.
+    plain : All Plain (map (replaced s l) (map packFact (m .facts)))
+    plain = subst (All Plain) (facts-rename arity s l h (m .facts) (g .facts))
+        (all-map {0, 0, 0, 0} (λ (_ : Fact). Unit) Plain packFact (λ f _. value-of (factEntry f) (omega arith)) (map (renameFact s l) (m .facts)) (all-any (λ (_ : Fact). Unit) (λ _. tt) (map (renameFact s l) (m .facts))))
+
+    facted : map packFact (refact (map (renameFact s l) (m .facts)) []) ≡ refactIn (orderIn (map (replaced s l) (map packFact (m .facts)))) []
     facted =
         refact-is arity (map (renameFact s l) (m .facts)) [] facts-fit tt
         ∙ ap (λ (x : List ℕ). refactIn x []) (facts-rename arity s l h (m .facts) (g .facts))
+        ∙ sym (refact-order (map (replaced s l) (map packFact (m .facts))) [] plain)
 
     pub into-is : workOf n (mergeInto s l m ps .0) (λ e. rename s l (now e)) (mergeInto s l m ps .1) ≡ intoIn s l (workOf n m now ps)
     unfolding mergeInto intoIn
@@ -98,8 +110,8 @@ module _ (arity : ℕ → ℕ → ℕ) (n s l : ℕ) (h : s < l) (b : s < 256) (
 
     pub into-pairs : All OctetPair (mergeInto s l m ps .1)
     unfolding mergeInto
-    into-pairs = refile-pairs (map (renameEntry s l) (m .keys)) ([], map (renamePair s l) ps)
-        (all-all (FitsEntry arity) OctetValue (λ x p. p .value) (map (renameEntry s l) (m .keys)) keys-fit) tt
+    into-pairs = refile-pairs (inOrder (map (renameEntry s l) (m .keys))) ([], map (renamePair s l) ps)
+        (all-all (FitsEntry arity) OctetValue (λ x p. p .value) (inOrder (map (renameEntry s l) (m .keys))) ordered-fit) tt
         (all-map OctetPair OctetPair (renamePair s l) (λ p q. (rename-octet s l (p .0) b (q .0), rename-octet s l (p .1) b (q .1))) ps a)
 
 -- ---- the pairs one after another

@@ -1,64 +1,63 @@
--- What renaming and filing anew make of one table: of keys with the pairs at the end of their list, and of facts.
+-- What renaming, putting in order and filing anew make of one table: of keys with the pairs at the end of their list, and of facts.
 use mathlib.Core.Path.{_≡_, sym, ap, ap₂, _∙_, subst}
-use Prim.Native.Nat.{ℕ, _+_, _-_, _≤_}
+use Prim.Native.Nat.{ℕ, _+_, _≤_}
 use native.Mathlib.Omega.{arith}
+use mathlib.Core.Logic.{inl}
 use mathlib.Core.List.{List, [], _++_, map, append-nil}
-use lib.ListN.{length, take, drop, length-map, length-take, length-drop, length-append, drop-of-length-le}
-use lib.Seq.{drop-at, take-all, drop-drop, length-take-le, take-append-le}
+use lib.ListN.{length, take, drop, length-drop, drop-of-length-le}
+use lib.Seq.{drop-at, take-all, length-take-le, take-append-le}
 use borrow.Rule.Slice.PartMut.{putMid}
+use Rattle.rules.specs.Image.{part}
 use Rattle.packing.specs.Replace.{replaced}
-use Rattle.filing.specs.Front.{mapFront, mapFront-take}
+use Rattle.renaming.specs.Order.{orderIn, Sorted, order-sorts}
+use Rattle.renaming.specs.Windows.{Elsewhere, elsewhere-then, elsewhere-table}
+use Rattle.renaming.specs.Table.{Through}
+use Rattle.filing.specs.Front.{mapFront}
 use Rattle.filing.specs.File.{Files, refileIn, refactIn, Refiled, Refacted}
+use Rattle.joining.specs.Lent.{lent}
 
 pub record JoinedKeys (s l n top : ℕ) (t : List ℕ) (count up : ℕ) (t′ : List ℕ) : Type 0 where
-  pub made : _≡_ {A = Files} (take count t′, drop up t′) (refileIn (map (replaced s l) (take n t)) ([], map (replaced s l) (drop top t)))
+  pub made : _≡_ {A = Files} (take count t′, drop up t′) (refileIn (orderIn (map (replaced s l) (take n t))) ([], map (replaced s l) (drop top t)))
   pub fewer : count ≤ n
   pub below : up ≤ top
   pub sum : count + top ≤ n + up
 
-pub record JoinedFacts (s l n : ℕ) (t : List ℕ) (count : ℕ) (t′ : List ℕ) : Type 0 where
-  pub made : take count t′ ≡ refactIn (map (replaced s l) (take n t)) []
+-- Facts from at on, with the places from spare on written over.
+pub record JoinedFacts (s l at n spare : ℕ) (w : List ℕ) (count : ℕ) (w′ : List ℕ) : Type 0 where
+  pub made : part at count w′ ≡ refactIn (orderIn (map (replaced s l) (part at n w))) []
   pub fewer : count ≤ n
+  pub elsewhere : Elsewhere at spare n w w′
 
 module _ (f : ℕ → ℕ) where
-  -- What lies behind the front is kept.
-  front-behind : (n a : ℕ) (t : List ℕ) → n ≤ length t → n ≤ a → drop a (mapFront f n t) ≡ drop a t
-  unfolding mapFront
-  front-behind n a t h l =
-      let w : length (map f (take n t)) ≡ n = length-map (take n t) f ∙ length-take-le n t h in
-      let e : n + (a - n) ≡ a = omega arith in
-      ap (λ j. drop j (map f (take n t) ++ drop n t)) (sym e)
-      ∙ sym (drop-drop (a - n) n (map f (take n t) ++ drop n t))
-      ∙ ap (drop (a - n)) (drop-at (map f (take n t)) (drop n t) n w)
-      ∙ drop-drop (a - n) n t ∙ ap (λ j. drop j t) e
-
   -- A front that is all.
   pub front-all : (k : ℕ) (t : List ℕ) → length t ≡ k → mapFront f k t ≡ map f t
   unfolding mapFront
   front-all k t e =
       ap₂ (λ (x y : List ℕ). map f x ++ y) (take-all k t (omega arith)) (drop-of-length-le t {i = k} (omega arith)) ∙ append-nil (map f t)
 
-  pub front-length : (n : ℕ) (t : List ℕ) → n ≤ length t → length (mapFront f n t) ≡ length t
-  unfolding mapFront
-  front-length n t h = simp (length-append, length-map, length-take, length-drop) (omega arith)
-
-module _ (s l n top k : ℕ) (t : List ℕ) (room : n + n ≤ top) (fits : top ≤ length t) (whole : top + k ≡ length t) where
+module _ (s l n top k : ℕ) (t t₁ : List ℕ) (room : n + n ≤ top) (fits : top ≤ length t) (whole : top + k ≡ length t) (r : Through (replaced s l) 0 n n t t₁) where
   abbrev f : ℕ → ℕ
   f = replaced s l
-
-  abbrev t₁ : List ℕ
-  t₁ = mapFront f n t
 
   abbrev t₂ : List ℕ
   t₂ = putMid top k t₁ (mapFront f k (take k (drop top t₁)))
 
   size₁ : length t₁ ≡ length t
-  size₁ = front-length f n t (omega arith)
+  size₁ = r .elsewhere .size
 
-  keys₂ : take n t₂ ≡ map f (take n t)
+  -- Behind the table and the spare places all is kept.
+  behind : drop top t₁ ≡ drop top t
+  unfolding part
+  behind =
+      sym (take-all k (drop top t₁) (omega (arith, length-drop top t₁, size₁)))
+      ∙ r .elsewhere .kept top k (inl (omega arith)) (inl (omega arith))
+      ∙ take-all k (drop top t) (omega (arith, length-drop top t))
+
+  keys₂ : take n t₂ ≡ orderIn (map f (take n t))
+  unfolding part
   keys₂ =
       take-append-le n (take top t₁) _ (omega (arith, length-take-le top t₁ (omega (arith, size₁))))
-      ∙ lib.Seq.take-take n top t₁ (omega arith) ∙ mapFront-take f n t (omega arith)
+      ∙ lib.Seq.take-take n top t₁ (omega arith) ∙ r .made
 
   pairs₂ : drop top t₂ ≡ map f (drop top t)
   pairs₂ =
@@ -67,20 +66,44 @@ module _ (s l n top k : ℕ) (t : List ℕ) (room : n + n ≤ top) (fits : top �
       drop-at (take top t₁) _ top (length-take-le top t₁ (omega (arith, size₁)))
       ∙ ap₂ (λ (x y : List ℕ). x ++ y) (ap (mapFront f k) a ∙ front-all f k (drop top t₁) d) (drop-of-length-le (drop top t₁) {i = k} (omega arith))
       ∙ append-nil (map f (drop top t₁))
-      ∙ ap (map f) (front-behind f n top t (omega arith) (omega arith))
+      ∙ ap (map f) behind
 
-  -- Renamed in front, renamed from top on, filed anew.
-  pub joined-keys : (u₁ u₂ : List ℕ) → u₁ ≡ t₁ → u₂ ≡ mapFront f k (take k (drop top u₁)) → (count up : ℕ) (t′ : List ℕ)
-      → Refiled n top (putMid top k u₁ u₂) count up t′ → JoinedKeys s l n top t count up t′
-  joined-keys u₁ u₂ e₁ e₂ count up t′ q =
-      let e : u₂ ≡ mapFront f k (take k (drop top t₁)) = e₂ ∙ ap (λ (u : List ℕ). mapFront f k (take k (drop top u))) e₁ in
-      let r = subst (λ (z : List ℕ). Refiled n top z count up t′) (ap₂ (λ (x y : List ℕ). putMid top k x y) e₁ e) q in
+  -- What was renamed in front is in order when it is filed.
+  pub keys-sorted : (u : List ℕ) → u ≡ mapFront f k (take k (drop top t₁)) → Sorted (take n (putMid top k t₁ u))
+  keys-sorted u e = subst (λ (z : List ℕ). Sorted (take n (putMid top k t₁ z))) (sym e) (subst Sorted (sym keys₂) (order-sorts (map f (take n t))))
+
+  -- Renamed and in order in front, renamed from top on, filed anew.
+  pub joined-keys : (u : List ℕ) → u ≡ mapFront f k (take k (drop top t₁)) → (count up : ℕ) (t′ : List ℕ)
+      → Refiled n top (putMid top k t₁ u) count up t′ → JoinedKeys s l n top t count up t′
+  joined-keys u e count up t′ q =
+      let z = subst (λ (v : List ℕ). Refiled n top (putMid top k t₁ v) count up t′) e q in
       record {
-        made = r .made ∙ ap₂ (λ (x y : List ℕ). refileIn x ([], y)) keys₂ pairs₂;
-        fewer = r .fewer;
-        below = r .below;
-        sum = r .sum;
+        made = z .made ∙ ap₂ (λ (x y : List ℕ). refileIn x ([], y)) keys₂ pairs₂;
+        fewer = z .fewer;
+        below = z .below;
+        sum = z .sum;
       }
 
-pub joined-facts : (s l n : ℕ) (t : List ℕ) → n ≤ length t → (count : ℕ) (t′ : List ℕ) → Refacted n (mapFront (replaced s l) n t) count t′ → JoinedFacts s l n t count t′
-joined-facts s l n t h count t′ r = record { made = r .made ∙ ap (λ (x : List ℕ). refactIn x []) (mapFront-take (replaced s l) n t h); fewer = r .fewer }
+module _ (s l at n spare k : ℕ) (w w₁ : List ℕ) (whole : k ≡ n) (room : spare + n ≤ at) (fits : at + n ≤ length w) (r : Through (replaced s l) at n spare w w₁) where
+  facts : take n (take k (drop at w₁)) ≡ orderIn (map (replaced s l) (part at n w))
+  unfolding part
+  facts = ap (λ j. take n (take j (drop at w₁))) whole ∙ lib.Seq.take-take n n (drop at w₁) (omega arith) ∙ r .made
+
+  pub facts-sorted : Sorted (take n (take k (drop at w₁)))
+  facts-sorted = subst Sorted (sym facts) (order-sorts (map (replaced s l) (part at n w)))
+
+  pub joined-facts : (count : ℕ) (u : List ℕ) → length u ≡ length (take k (drop at w₁)) → Refacted n (take k (drop at w₁)) count u → JoinedFacts s l at n spare w count (putMid at k w₁ u)
+  unfolding part
+  joined-facts count u size q =
+      let j = lent (λ x y. take count y ≡ refactIn (take n x) []) at n k w₁ u whole (omega (arith, r .elsewhere .size)) size (q .made) in
+      record {
+        made = front count (putMid at k w₁ u) (q .fewer) ∙ j .made ∙ ap (λ (x : List ℕ). refactIn x []) (same ∙ r .made);
+        fewer = q .fewer;
+        elsewhere = elsewhere-then (r .elsewhere) (elsewhere-table (j .kept));
+      }
+    where
+      front : (c : ℕ) (v : List ℕ) → c ≤ n → part at c v ≡ take c (part at n v)
+      front c v h = sym (lib.Seq.take-take c n (drop at v) h)
+
+      same : take n (part at n w₁) ≡ part at n w₁
+      same = lib.Seq.take-take n n (drop at w₁) (omega arith)

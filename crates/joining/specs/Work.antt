@@ -13,6 +13,7 @@ use Rattle.rules.specs.Merge.{mergeDepths, sum}
 use Rattle.packing.specs.Compare.{ways}
 use Rattle.packing.specs.Replace.{replaced, keyOf, valueOf}
 use Rattle.tables.specs.Table.{lookIn, putIn, put-known}
+use Rattle.renaming.specs.Order.{orderIn, order-length}
 use Rattle.filing.specs.File.{Files, fileIn, refileIn, refactIn}
 use Rattle.lowering.specs.Lower.{lowerIn}
 
@@ -30,8 +31,8 @@ waiting ps v = record { keys = v .keys; pairs = ps; facts = v .facts; depths = v
 -- s survives, l goes.
 unfoldable pub intoIn : ℕ → ℕ → Work → Work
 intoIn s l v =
-    let r = refileIn (map (replaced s l) (v .keys)) ([], map (replaced s l) (v .pairs)) in
-    record { keys = r .0; pairs = r .1; facts = refactIn (map (replaced s l) (v .facts)) []; depths = mergeDepths s l (v .depths); history = map (replaced s l) (v .history) }
+    let r = refileIn (orderIn (map (replaced s l) (v .keys))) ([], map (replaced s l) (v .pairs)) in
+    record { keys = r .0; pairs = r .1; facts = refactIn (orderIn (map (replaced s l) (v .facts))) []; depths = mergeDepths s l (v .depths); history = map (replaced s l) (v .history) }
 
 -- The two elements of a pair become one; they may be one already.
 unfoldable pub nextIn : ℕ → Work → Work
@@ -72,7 +73,8 @@ into-rounds : (s l : ℕ) (v : Work) → rounds (intoIn s l v) ≡ rounds v
 unfolding intoIn
 into-rounds s l v =
     let f = replaced s l in
-    let r = refile-length (map f (v .keys)) ([], map f (v .pairs)) in
+    let r = refile-length (orderIn (map f (v .keys))) ([], map f (v .pairs)) in
+    let o = order-length (map f (v .keys)) in
     let p = length-map (v .keys) f in
     let q = length-map (v .pairs) f in
     omega arith

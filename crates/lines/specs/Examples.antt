@@ -11,7 +11,7 @@ use Rattle.rules.specs.Sheet.{key, rel, Model, Sheet, limits, empty, blank, fin
 use Rattle.rules.specs.Look.{originMeaning, bodyMeanings, headMeanings, lookMeaning, look, observed}
 use Rattle.rules.specs.Fire.{choices, bodyObserved, disjunctObserved, headObserved, fires, numbered, firing, visits, placeAfter}
 use Rattle.rules.specs.Bound.{admits, depthOver, depthAt, depthMeaning, depth, termsOf, admitted}
-use Rattle.rules.specs.Merge.{rename, renameEntry, renameFact, file, refile, refact, mergeDepths, mergeInto, mergeAll, lowerBy, sum, lower, lowered, merge}
+use Rattle.rules.specs.Merge.{rename, renameEntry, renameFact, insertEntry, inOrder, file, refile, refact, mergeDepths, mergeInto, mergeAll, lowerBy, sum, lower, lowered, merge}
 use Rattle.rules.specs.Child.{add, put, putMeaning, enter, tooBig, recorded, tell, tells, child}
 use Rattle.rules.specs.Pool.{State, schedulers, schedulerOf, strategies, strategyOf, numbers, sheetAt, sheetsAt, used, free, opened, changed, freed}
 use Rattle.rules.specs.Step.{placed, stored, openSlots, cutSlots, pushed, schedule, refuse, done, withPlaced, withoutBase, withChildren, stepOn, step, run}
@@ -27,7 +27,7 @@ pub record Case : Type 0 where
 
 -- Its `unfolding` line names every function of a reading, of a run and of the text.
 pub did : Case → Bytes
-unfolding if caseO caseL three order mem without firsts keep firstOf from entries flat terms inTerm inLiteral appended completedDisjunct completed rules caseRead andThen giving many num number ranged declared markByte mark version namesAt levels termAt literalAt witnesses witnessArity originAt disjunctAt sequentAt ended readBook limits empty blank find holds insertKey insertFact domain known originMeaning bodyMeanings headMeanings lookMeaning look observed choices bodyObserved disjunctObserved headObserved fires numbered firing visits placeAfter admits depthOver depthAt depthMeaning depth termsOf admitted rename renameEntry renameFact file refile refact mergeDepths mergeInto mergeAll lowerBy sum lower lowered merge add put putMeaning enter tooBig recorded tell tells child schedulers schedulerOf strategies strategyOf numbers sheetAt sheetsAt used free opened changed freed placed stored openSlots cutSlots pushed schedule refuse done withPlaced withoutBase withChildren stepOn step run bounds boundOf knownBound digits decimal fields keyWord equalsWord depthWord factWord completeWord boundedWord waitingWord stopWord stepsWord refusedWord newline keyLine depthText depthLine factLine told modelLines sheetLines listing refusal settingsIn knownSettings slotCount budget ran printed
+unfolding if caseO caseL three order mem without firsts keep firstOf from entries flat terms inTerm inLiteral appended completedDisjunct completed rules caseRead andThen giving many num number ranged declared markByte mark version namesAt levels termAt literalAt witnesses witnessArity originAt disjunctAt sequentAt ended readBook limits empty blank find holds insertKey insertFact domain known originMeaning bodyMeanings headMeanings lookMeaning look observed choices bodyObserved disjunctObserved headObserved fires numbered firing visits placeAfter admits depthOver depthAt depthMeaning depth termsOf admitted rename renameEntry renameFact insertEntry inOrder file refile refact mergeDepths mergeInto mergeAll lowerBy sum lower lowered merge add put putMeaning enter tooBig recorded tell tells child schedulers schedulerOf strategies strategyOf numbers sheetAt sheetsAt used free opened changed freed placed stored openSlots cutSlots pushed schedule refuse done withPlaced withoutBase withChildren stepOn step run bounds boundOf knownBound digits decimal fields keyWord equalsWord depthWord factWord completeWord boundedWord waitingWord stopWord stepsWord refusedWord newline keyLine depthText depthLine factLine told modelLines sheetLines listing refusal settingsIn knownSettings slotCount budget ran printed
 did k = printed (k .input)
 
 -- ---- words for the table

@@ -1,5 +1,4 @@
--- Depths lowered through packed keys, and lists of which all but one region is kept.
-pub mod Kept
+-- Depths lowered through packed keys.
 pub mod Lower
 pub mod Rest
 pub mod Carry

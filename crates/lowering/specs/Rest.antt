@@ -13,7 +13,7 @@ use Rattle.base.specs.BranchLaws.{if-elim, if-true, if-false, eq→eqb, neqb→
 use Rattle.rules.specs.Image.{part}
 use Rattle.rules.specs.Merge.{sum}
 use Rattle.packing.specs.Replace.{valueOf}
-use Rattle.lowering.specs.Kept.{Kept, kept-none, kept-then, kept-set, part-set, part-at, kept-count, kept-before}
+use Rattle.images.specs.Kept.{Kept, kept-none, kept-then, kept-set, part-set, part-at, kept-count, kept-before}
 use Rattle.lowering.specs.Lower.{overIn, lowest, lowerAt, lowerByIn, lowerIn}
 
 -- What a flag says of depths before and after: some fell, or all are as they were.

@@ -11,13 +11,14 @@ use Rattle.rules.specs.Sheet.{Limits, Model, Sheet}
 use Rattle.rules.specs.Bound.{History}
 use Rattle.rules.specs.Image.{part}
 use Rattle.rules.specs.Merge.{Pair, mergeInto, mergeAll, lowered, merge}
+use Rattle.renaming.specs.Order.{Sorted}
 use Rattle.filing.specs.Carry.{packPair}
 use Rattle.sheets.specs.Form.{View, viewOf, Formed, keysAt, factsAt, depthsAt, historyAt}
-use Rattle.lowering.specs.Kept.{Kept, kept-set, part-set, kept-count, kept-before, kept-behind, part-size}
+use Rattle.images.specs.Kept.{Kept, kept-set, part-set, kept-count, kept-before, kept-behind, part-size}
 use Rattle.lowering.specs.Rest.{LoweredTo}
 use Rattle.joining.specs.Work.{Work, waiting, mergeAllIn, rounds, loweredIn}
 use Rattle.joining.specs.Carry.{workOf, Ready, Packs, mergedIn, merge-is}
-use Rattle.merge.specs.Into.{keysRoom, workAt, Fewer, fewer-then}
+use Rattle.merge.specs.Into.{keysRoom, workAt, Orderly, Fewer, fewer-then}
 use Rattle.merge.specs.Next.{Stacked, AllForm}
 use Rattle.merge.specs.Held.{HoldsNow, withModel}
 
@@ -43,19 +44,6 @@ module _ (lim : Limits) (a b : ℕ) (w : List ℕ) (g : Formed lim w) where
 
   placed : Kept keysAt (keysRoom lim) w first
   placed = kept-set keysAt (keysRoom lim) w n (a * 256 + b) (omega arith)
-
-  -- The pair stands alone at the end of its room.
-  pub first-stacked : Stacked lim n first
-  first-stacked = record {
-    formed = record {
-      size = placed .size ∙ g .size;
-      created = omega (arith, kept-count placed 2 (omega arith), g .created);
-      keys = omega (arith, kept-count placed 3 (omega arith), g .keys);
-      facts = omega (arith, kept-count placed 4 (omega arith), g .facts);
-    };
-    high = omega arith;
-    room = omega (arith, kept-count placed 3 (omega arith), g .keys);
-  }
 
   first-fewer : Fewer w first
   first-fewer = record {
@@ -99,6 +87,25 @@ module _ (lim : Limits) (a b : ℕ) (w : List ℕ) (g : Formed lim w) where
 
       history : part (historyAt lim) (lim .elements) first ≡ part (historyAt lim) (lim .elements) w
       history = kept-behind placed (historyAt lim) (lim .elements) (omega arith)
+
+  -- The pair stands alone at the end of its room.
+  pub first-stacked : Orderly lim w → Stacked lim n first
+  unfolding viewOf
+  first-stacked o = record {
+    formed = record {
+      size = placed .size ∙ g .size;
+      created = omega (arith, kept-count placed 2 (omega arith), g .created);
+      keys = omega (arith, kept-count placed 3 (omega arith), g .keys);
+      facts = omega (arith, kept-count placed 4 (omega arith), g .facts);
+    };
+    orderly = record {
+      even = o .even;
+      keys = subst Sorted (sym (ap (λ (u : Work). u .keys) first-work)) (o .keys);
+      facts = subst Sorted (sym (ap (λ (u : Work). u .facts) first-work)) (o .facts);
+    };
+    high = omega arith;
+    room = omega (arith, kept-count placed 3 (omega arith), g .keys);
+  }
 
   -- The pairs merged, and then the depths lowered.
   module _ (w₂ w₃ : List ℕ) (q : AllForm lim n first w₂) (l : LoweredTo keysAt (getD w₂ 3 0) (depthsAt lim) (getD w₂ 2 0) w₂ w₃) where

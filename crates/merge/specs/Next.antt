@@ -11,13 +11,14 @@ use Rattle.base.specs.BranchLaws.{if-true, if-false, eq→eqb}
 use Rattle.rules.specs.Sheet.{Limits}
 use Rattle.rules.specs.Image.{part}
 use Rattle.sheets.specs.Form.{Formed, keysAt}
-use Rattle.lowering.specs.Kept.{part-at, part-size}
+use Rattle.images.specs.Kept.{part-at, part-size}
 use Rattle.joining.specs.Work.{Work, intoIn, nextIn, mergeAllIn, rounds, all-next, all-end}
-use Rattle.merge.specs.Into.{keysRoom, workAt, Fewer, fewer-same, fewer-then, IntoForm}
+use Rattle.merge.specs.Into.{keysRoom, workAt, Orderly, Fewer, fewer-same, fewer-then, IntoForm}
 
 -- Pairs stand from top on, with room before them for all that can follow.
 pub record Stacked (lim : Limits) (top : ℕ) (w : List ℕ) : Type 0 where
   pub formed : Formed lim w
+  pub orderly : Orderly lim w
   pub high : top ≤ keysRoom lim
   pub room : getD w 3 0 + lim .keys ≤ top
 
@@ -44,7 +45,7 @@ module _ (lim : Limits) (top : ℕ) (w : List ℕ) (g : Stacked lim top w) (some
   pub next-same : p / 256 ≡ p % 256 → NextForm lim top w (top + 1) w
   unfolding nextIn
   next-same e = record {
-    stacked = record { formed = g .formed; high = omega arith; room = omega (arith, g .room) };
+    stacked = record { formed = g .formed; orderly = g .orderly; high = omega arith; room = omega (arith, g .room) };
     fewer = fewer-same w;
     rest = round ∙ ap (λ (v : Work). mergeAllIn (rounds v) v) (if-true (eqb (p / 256) (p % 256)) (λ _. workAt lim (top + 1) w) _ (eq→eqb (p / 256) (p % 256) e));
     sum = omega arith;
@@ -55,7 +56,7 @@ module _ (lim : Limits) (top : ℕ) (w : List ℕ) (g : Stacked lim top w) (some
       → IntoForm lim s l (top + 1) w up w′ → NextForm lim top w up w′
   unfolding nextIn
   next-into s l up w′ n es el i = record {
-    stacked = record { formed = i .formed; high = omega (arith, i .below); room = omega (arith, i .sum, g .room) };
+    stacked = record { formed = i .formed; orderly = i .orderly; high = omega (arith, i .below); room = omega (arith, i .sum, g .room) };
     fewer = i .fewer;
     rest = round ∙ ap (λ (v : Work). mergeAllIn (rounds v) v)
         (if-false (eqb (p / 256) (p % 256)) _ (λ _. intoIn (min (p / 256) (p % 256)) (max (p / 256) (p % 256)) (workAt lim (top + 1) w)) (not-T (eqb (p / 256) (p % 256)) (λ q. n (eqb→eq (p / 256) (p % 256) q)))

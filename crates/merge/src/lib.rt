@@ -7,27 +7,20 @@ ghost use lib.ListN.{length, getD};
 ghost use Rattle.rules.specs.Merge.{mergeDepths};
 ghost use Rattle.packing.specs.Replace.{replaced};
 ghost use Rattle.sheets.specs.Form.{limitsOf, Formed};
-ghost use Rattle.merge.specs.Lent.{KeysAt, FactsAt, RegionAt};
-ghost use Rattle.merge.specs.Into.{IntoForm};
+ghost use Rattle.rules.specs.Image.{part};
+ghost use Rattle.renaming.specs.Order.{Sorted};
+ghost use Rattle.merge.specs.Regions.{KeysAt, RegionAt};
+ghost use Rattle.merge.specs.Into.{Orderly, IntoForm};
 ghost use Rattle.merge.specs.Next.{Stacked, NextForm, AllForm};
 ghost use Rattle.merge.specs.Merged.{MergedForm};
 
 // The region of n keys, with the pairs from its place top on.
 fn keys_joined(w: &mut [u64], at: usize, room: usize, n: usize, top: usize, s: u64, l: u64) -> Ends
-    requires { ⌜ (at + room ≤ length (now w)) × ((n + n ≤ top) × ((top ≤ room) × (s < 256))) ⌝ }
+    requires { ⌜ (at + room ≤ length (now w)) × ((n + n ≤ top) × ((top ≤ room) × ((s < l) × ((s < 256) × Sorted (part at n (now w)))))) ⌝ }
     ensures { λ r. ⌜ KeysAt at room n top s l (now (w .entry)) (r .count) (r .top) (now (w .exit)) ⌝ }
 {
     let e = at + room;
     joining::join_keys(&mut w[at..e], n, top, s, l)
-}
-
-// The region of n facts.
-fn facts_joined(w: &mut [u64], at: usize, room: usize, n: usize, s: u64, l: u64) -> usize
-    requires { ⌜ (at + room ≤ length (now w)) × ((n ≤ room) × (s < 256)) ⌝ }
-    ensures { λ r. ⌜ FactsAt at room n s l (now (w .entry)) r (now (w .exit)) ⌝ }
-{
-    let e = at + room;
-    joining::join_facts(&mut w[at..e], n, s, l)
 }
 
 // The depths.
@@ -48,7 +41,7 @@ fn history_joined(w: &mut [u64], at: usize, n: usize, s: u64, l: u64)
     filing::rename_all(&mut w[at..e], n, s, l);
 }
 
-// s survives, l goes. Where the pairs begin afterwards.
+// s survives, l goes. The places between keys and pairs are spare for either table. Where the pairs begin afterwards.
 pub fn merge_into(
     w: &mut [u64],
     le: usize,
@@ -58,7 +51,7 @@ pub fn merge_into(
     s: u64,
     l: u64,
 ) -> usize
-    requires { ⌜ Formed (limitsOf le lk lf) (now w) × ((getD (now w) 3 0 + lk ≤ top) × ((top ≤ 1 + lk + lk) × (s < 256))) ⌝ }
+    requires { ⌜ Formed (limitsOf le lk lf) (now w) × (Orderly (limitsOf le lk lf) (now w) × ((getD (now w) 3 0 + lk ≤ top) × ((top ≤ 1 + lk + lk) × ((s < l) × (s < 256))))) ⌝ }
     ensures { λ r. ⌜ IntoForm (limitsOf le lk lf) s l top (now (w .entry)) r (now (w .exit)) ⌝ }
 {
     let created = w[2] as usize;
@@ -67,8 +60,8 @@ pub fn merge_into(
     let f = 6 + lk + lk;
     let d = f + lf;
     let h = d + le;
+    let left = joining::join_facts(w, f, facts, 5 + keys, s, l);
     let ends = keys_joined(w, 5, 1 + lk + lk, keys, top, s, l);
-    let left = facts_joined(w, f, lf, facts, s, l);
     depths_joined(w, d, created, s, l);
     history_joined(w, h, le, s, l);
     w[3] = ends.count as u64;
@@ -106,7 +99,7 @@ fn merge_all(w: &mut [u64], le: usize, lk: usize, lf: usize, start: usize)
 
 // Elements a and b become one, with all that follows from it, and depths are lowered until none falls.
 pub fn merge(w: &mut [u64], le: usize, lk: usize, lf: usize, a: u64, b: u64)
-    requires { ⌜ Formed (limitsOf le lk lf) (now w) × ((a < 256) × (b < 256)) ⌝ }
+    requires { ⌜ Formed (limitsOf le lk lf) (now w) × (Orderly (limitsOf le lk lf) (now w) × ((a < 256) × (b < 256))) ⌝ }
     ensures { λ _. ⌜ MergedForm (limitsOf le lk lf) a b (now (w .entry)) (now (w .exit)) ⌝ }
 {
     let start = lk + lk;

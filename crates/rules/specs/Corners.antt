@@ -12,7 +12,7 @@ use Rattle.rules.specs.Sheet.{Key, key, Fact, rel, Entry, Model, Sheet, 
 use Rattle.rules.specs.Look.{originMeaning, bodyMeanings, headMeanings, lookMeaning, look, observed}
 use Rattle.rules.specs.Fire.{choices, bodyObserved, disjunctObserved, headObserved, fires, numbered, firing, visits, placeAfter}
 use Rattle.rules.specs.Bound.{Bound, unbounded, domainSize, depthPure, depthReuse, admits, depthOver, depthAt, depthMeaning, depth, termsOf, admitted}
-use Rattle.rules.specs.Merge.{rename, renameEntry, renameFact, file, refile, refact, mergeDepths, mergeInto, mergeAll, lowerBy, sum, lower, lowered, merge}
+use Rattle.rules.specs.Merge.{rename, renameEntry, renameFact, insertEntry, inOrder, file, refile, refact, mergeDepths, mergeInto, mergeAll, lowerBy, sum, lower, lowered, merge}
 use Rattle.rules.specs.Child.{add, put, putMeaning, enter, tooBig, recorded, tell, tells, child}
 use Rattle.rules.specs.Pool.{State, schedulerOf, strategyOf, numbers, sheetAt, used, free, changed, freed}
 use Rattle.rules.specs.Step.{placed, stored, openSlots, cutSlots, pushed, schedule, refuse, done, withPlaced, withoutBase, withChildren, stepOn, step, Ran, run}
@@ -75,7 +75,7 @@ start k = record {
 
 -- Its `unfolding` line names every function of a run.
 pub did : Case → Shown
-unfolding if caseO caseL three order mem without firsts keep firstOf from entries flat inTerm inLiteral appended completedDisjunct completed empty blank find holds insertKey insertFact domain known originMeaning bodyMeanings headMeanings lookMeaning look observed choices bodyObserved disjunctObserved headObserved fires numbered firing visits placeAfter admits depthOver depthAt depthMeaning depth termsOf admitted rename renameEntry renameFact file refile refact mergeDepths mergeInto mergeAll lowerBy sum lower lowered merge add put putMeaning enter tooBig recorded tell tells child schedulerOf strategyOf numbers sheetAt used free changed freed placed stored openSlots cutSlots pushed schedule refuse done withPlaced withoutBase withChildren stepOn step run shown start
+unfolding if caseO caseL three order mem without firsts keep firstOf from entries flat inTerm inLiteral appended completedDisjunct completed empty blank find holds insertKey insertFact domain known originMeaning bodyMeanings headMeanings lookMeaning look observed choices bodyObserved disjunctObserved headObserved fires numbered firing visits placeAfter admits depthOver depthAt depthMeaning depth termsOf admitted rename renameEntry renameFact insertEntry inOrder file refile refact mergeDepths mergeInto mergeAll lowerBy sum lower lowered merge add put putMeaning enter tooBig recorded tell tells child schedulerOf strategyOf numbers sheetAt used free changed freed placed stored openSlots cutSlots pushed schedule refuse done withPlaced withoutBase withChildren stepOn step run shown start
 did k = shown (run (k .lim) (k .budget) (k .bound) (map completed (k .sequents)) (start k))
 
 -- ---- words for the table

@@ -1,12 +1,12 @@
 -- Merging (01, "How a step goes"; `merge`, `reduce_rewrites`, `reduce_facts` and `lower` in the Rust).
-use Prim.Native.Nat.{ℕ, zero, suc, _+_, max, min}
+use Prim.Native.Nat.{ℕ, zero, suc, _+_, max, min, compare, Ordering, Ordering·lt, Ordering·gt}
 use mathlib.Core.Bool.{Bool, true, false}
 use mathlib.Core.Option.{Option, none, some}
 use mathlib.Core.List.{List, [], _∷_, _++_, map}
 use lib.ListN.{length, getD, set}
 use lib.Dec.{eqb}
-use Rattle.base.specs.Branch.{if, caseO}
-use Rattle.rules.specs.Sheet.{Key, key, Fact, rel, Entry, Model, find, insertKey, insertFact}
+use Rattle.base.specs.Branch.{if, caseO, three}
+use Rattle.rules.specs.Sheet.{Key, key, Fact, rel, Entry, Model, keyOrder, find, insertKey, insertFact}
 use Rattle.rules.specs.Bound.{depthOver, History}
 
 -- s survives, l goes.
@@ -25,6 +25,20 @@ Pair = ℕ × ℕ
 
 abbrev pub renamePair : ℕ → ℕ → Pair → Pair
 renamePair s l p = (rename s l (p .0), rename s l (p .1))
+
+-- Entries by key, and those of one key by value.
+abbrev pub entryOrder : Entry → Entry → Ordering
+entryOrder a b = three (keyOrder (a .0) (b .0)) (λ _. Ordering·lt) (λ _. compare (a .1) (b .1)) (λ _. Ordering·gt)
+
+-- Behind all that are not above it.
+unfoldable pub insertEntry : Entry → List Entry → List Entry
+insertEntry n [] = n ∷ []
+insertEntry n (x ∷ xs) = three (entryOrder n x) (λ _. n ∷ x ∷ xs) (λ _. x ∷ insertEntry n xs) (λ _. x ∷ insertEntry n xs)
+
+-- Renamed entries need not rise, and two may have one key: all of them, in order.
+unfoldable pub inOrder : List Entry → List Entry
+inOrder [] = []
+inOrder (x ∷ xs) = insertEntry x (inOrder xs)
 
 -- Keys filed anew, and the pairs still to merge, the newest first.
 abbrev pub Filed : Type 0
@@ -46,10 +60,11 @@ refact (f ∷ fs) done = refact fs (insertFact f done)
 unfoldable pub mergeDepths : ℕ → ℕ → List ℕ → List ℕ
 mergeDepths s l ds = set (set ds s (min (getD ds s 0) (getD ds l 0))) l 0
 
--- What two elements' becoming one makes of a model, with the pairs that follow from it before those that are waiting.
+-- What two elements' becoming one makes of a model, with the pairs that follow from it before those that are waiting. Entries are
+-- filed in the order of their new keys: document 01 fixes no order, and only one sheet meets the laws of merging (congruence.Sound).
 unfoldable pub mergeInto : ℕ → ℕ → Model → List Pair → Model × List Pair
 mergeInto s l m ps =
-    let r = refile (map (renameEntry s l) (m .keys)) ([], map (renamePair s l) ps) in
+    let r = refile (inOrder (map (renameEntry s l) (m .keys))) ([], map (renamePair s l) ps) in
     (record { created = m .created; keys = r .0; facts = refact (map (renameFact s l) (m .facts)) []; depths = mergeDepths s l (m .depths) }, r .1)
 
 -- The pairs one after another. Each round uses up a pair, and adds one for each key that falls away: as many rounds as there are

@@ -19,8 +19,9 @@ use Rattle.base.specs.BranchLaws.{if-elim, caseO-elim, neqb→ne}
 use Rattle.base.specs.ListLaws.{map-map, all-all, all-map, all-unmap, some-some, some-map}
 use Rattle.rules.specs.Sheet.{Key, Entry, Model, find, insertKey}
 use Rattle.rules.specs.Bound.{depthOver, History}
-use Rattle.rules.specs.Merge.{rename, renameEntry, renameFact, Pair, renamePair, Filed, file, refile, mergeDepths, mergeInto, mergeAll, sum, lower, lowered, merge}
+use Rattle.rules.specs.Merge.{rename, renameEntry, renameFact, Pair, renamePair, inOrder, Filed, file, refile, mergeDepths, mergeInto, mergeAll, sum, lower, lowered, merge}
 use Rattle.laws.specs.Tables.{find-all, insertKey-all, refile-all, refact-all}
+use Rattle.laws.specs.InOrder.{inOrder-all, inOrder-has, inOrder-length}
 use Rattle.soundness.specs.Tools.{insertKey-new, insertKey-old, insertKey-length, KeyOver, FactOver, Yields, keys-over, facts-over, Yielded, all-yielded, yielded-has}
 use Rattle.soundness.specs.Settle.{depthIn, given, given-below, ReachedBy, AtRest, Reached, lower-rests, lower-reached, lower-below, lower-length}
 
@@ -183,13 +184,18 @@ image-all : (s l : ℕ) (P : ℕ → Type 0) (xs : List ℕ) → All P xs → Al
 image-all s l P xs a = all-map P (Image s l P) (rename s l) (λ x p. (x, p, refl)) xs a
 
 module _ (B : ℕ → Type 0) (s l : ℕ) (s≢l : s ≢ l) (m : Model) (now : History) (P : ℕ → Type 0) (ps : P s) (pl : P l) (o : Live B m now P) (qs : List Pair) where
+  renamed-values : All (Yields (Image s l P)) (inOrder (map (renameEntry s l) (m .keys)))
+  unfolding renameEntry
+  renamed-values = inOrder-all (Yields (Image s l P)) (map (renameEntry s l) (m .keys))
+      (all-map (Yields P) (Yields (Image s l P)) (renameEntry s l) (λ x a. (x .1, a, refl)) (m .keys) (o .values))
+
   into-live : Live B (mergeInto s l m qs .0) (λ e. rename s l (now e)) (Image s l P)
   unfolding mergeInto renameEntry renameFact
   into-live = record {
-    keyArgs = refile-all (KeyOver (Image s l P)) (map (renameEntry s l) (m .keys)) ([], map (renamePair s l) qs)
-        (all-map (KeyOver P) (KeyOver (Image s l P)) (renameEntry s l) (λ x a. image-all s l P (x .0 .args) a) (m .keys) (o .keyArgs)) tt;
-    values = refile-all (Yields (Image s l P)) (map (renameEntry s l) (m .keys)) ([], map (renamePair s l) qs)
-        (all-map (Yields P) (Yields (Image s l P)) (renameEntry s l) (λ x a. (x .1, a, refl)) (m .keys) (o .values)) tt;
+    keyArgs = refile-all (KeyOver (Image s l P)) (inOrder (map (renameEntry s l) (m .keys))) ([], map (renamePair s l) qs)
+        (inOrder-all (KeyOver (Image s l P)) (map (renameEntry s l) (m .keys))
+        (all-map (KeyOver P) (KeyOver (Image s l P)) (renameEntry s l) (λ x a. image-all s l P (x .0 .args) a) (m .keys) (o .keyArgs))) tt;
+    values = refile-all (Yields (Image s l P)) (inOrder (map (renameEntry s l) (m .keys))) ([], map (renamePair s l) qs) renamed-values tt;
     factArgs = refact-all (FactOver (Image s l P)) (map (renameFact s l) (m .facts)) []
         (all-map (FactOver P) (FactOver (Image s l P)) (renameFact s l) (λ f a. image-all s l P (f .args) a) (m .facts) (o .factArgs)) tt;
     nows = λ e b. (now e, o .nows e b, refl);
@@ -218,30 +224,31 @@ module _ (B : ℕ → Type 0) (s l : ℕ) (s≢l : s ≢ l) (m : Model) (now : H
       let sr : s < length ds = subst (λ n. s < n) (sym (o .long)) (o .low s ps) in
       let b = depth-from s l ds s≢l sr P ps pl (i .0) (i .1) in
       let R : Key → Type 0 = λ k. given new (k .args) ≤ depthIn new e in
-      refile-some h (h e) R (map (renameEntry s l) (m .keys)) ([], map (renamePair s l) qs) a
-      (inl (some-map (λ (x : Entry). (h (rename s l (x .1)) ≡ h (rename s l (b .0))) × (given ds (x .0 .args) ≤ depthIn ds (b .0))) (Coloured h (h e) R) (renameEntry s l)
+      refile-some h (h e) R (inOrder (map (renameEntry s l) (m .keys))) ([], map (renamePair s l) qs) a
+      (inl (inOrder-has (Coloured h (h e) R) (map (renameEntry s l) (m .keys))
+      (some-map (λ (x : Entry). (h (rename s l (x .1)) ≡ h (rename s l (b .0))) × (given ds (x .0 .args) ≤ depthIn ds (b .0))) (Coloured h (h e) R) (renameEntry s l)
       (λ x q. (
         q .0 ∙ ap h (b .2 ∙ i .2),
         le-trans (given-renamed s l ds s≢l sr (x .0 .args)) (le-trans (q .1) (subst (λ z. depthIn ds (b .0) ≤ depthIn new z) (i .2) (b .3))),
       )) (m .keys)
       (r (λ z. h (rename s l z)) (
         ap h (rename-survivor s l ∙ sym (rename-goner s l)),
-        all-unmap (λ (p : Pair). h (p .0) ≡ h (p .1)) (renamePair s l) qs (refile-respects h (map (renameEntry s l) (m .keys)) ([], map (renamePair s l) qs) a),
+        all-unmap (λ (p : Pair). h (p .0) ≡ h (p .1)) (renamePair s l) qs (refile-respects h (inOrder (map (renameEntry s l) (m .keys))) ([], map (renamePair s l) qs) a),
       )
-      (b .0) (b .1))))
+      (b .0) (b .1)))))
 
   into-pairs : All (λ (p : Pair). P (p .0) × P (p .1)) qs → All (λ (p : Pair). Image s l P (p .0) × Image s l P (p .1)) (mergeInto s l m qs .1)
-  unfolding mergeInto renameEntry
+  unfolding mergeInto
   into-pairs a =
-      refile-pairs (Image s l P) (map (renameEntry s l) (m .keys)) ([], map (renamePair s l) qs)
-      (all-map (Yields P) (Yields (Image s l P)) (renameEntry s l) (λ x p. (x .1, p, refl)) (m .keys) (o .values)) tt
+      refile-pairs (Image s l P) (inOrder (map (renameEntry s l) (m .keys))) ([], map (renamePair s l) qs) renamed-values tt
       (all-map (λ (p : Pair). P (p .0) × P (p .1)) (λ (p : Pair). Image s l P (p .0) × Image s l P (p .1)) (renamePair s l) (λ p q. ((p .0, q .0, refl), (p .1, q .1, refl))) qs a)
 
 -- A key that falls away has become a pair.
 into-length : (s l : ℕ) (m : Model) (qs : List Pair) → length (mergeInto s l m qs .0 .keys) + length (mergeInto s l m qs .1) ≡ length (m .keys) + length qs
 unfolding mergeInto
 into-length s l m qs =
-    let r = refile-length (map (renameEntry s l) (m .keys)) ([], map (renamePair s l) qs) in
+    let r = refile-length (inOrder (map (renameEntry s l) (m .keys))) ([], map (renamePair s l) qs) in
+    let o = inOrder-length (map (renameEntry s l) (m .keys)) in
     let p = length-map (m .keys) (renameEntry s l) in
     let q = length-map qs (renamePair s l) in omega arith
 

@@ -13,9 +13,10 @@ use Rattle.base.specs.ListLaws.{all-map}
 use Rattle.rules.specs.Book.{Names}
 use Rattle.rules.specs.Sheet.{Fact, Entry, Model, empty, Limits}
 use Rattle.rules.specs.Bound.{History}
-use Rattle.rules.specs.Merge.{rename, renameEntry, renameFact, Pair, renamePair, Filed, file, refile, refact, mergeInto, mergeAll, lowered, merge}
+use Rattle.rules.specs.Merge.{rename, renameEntry, renameFact, Pair, renamePair, inOrder, Filed, file, refile, refact, mergeInto, mergeAll, lowered, merge}
 use Rattle.rules.specs.Sound.{hasArity, declaredAs, keyDeclared, factDeclared}
 use Rattle.laws.specs.Tables.{KeysRise, FactsRise, refile-all, refile-rises, refact-all, refact-rises}
+use Rattle.laws.specs.InOrder.{inOrder-all, inOrder-length}
 use Rattle.soundness.specs.Tools.{insertKey-short, insertFact-short}
 use Rattle.soundness.specs.Join.{Linked}
 
@@ -62,7 +63,11 @@ into-small : (lim : Limits) (s l : ℕ) (m : Model) (qs : List Pair) → Small l
 unfolding mergeInto
 into-small lim s l m qs g = record {
   fewCreated = g .fewCreated;
-  fewKeys = let q = refile-short (map (renameEntry s l) (m .keys)) ([], map (renamePair s l) qs) in let p = length-map (m .keys) (renameEntry s l) in let z = g .fewKeys in omega arith;
+  fewKeys =
+      let q = refile-short (inOrder (map (renameEntry s l) (m .keys))) ([], map (renamePair s l) qs) in
+      let o = inOrder-length (map (renameEntry s l) (m .keys)) in
+      let p = length-map (m .keys) (renameEntry s l) in
+      let z = g .fewKeys in omega arith;
   fewFacts = let q = refact-short (map (renameFact s l) (m .facts)) [] in let p = length-map (m .facts) (renameFact s l) in let z = g .fewFacts in omega arith;
 }
 
@@ -75,11 +80,12 @@ merge-small lim a b m now g =
 into-listed : (d : Names) (s l : ℕ) (m : Model) (qs : List Pair) → Listed d m → Listed d (mergeInto s l m qs .0)
 unfolding mergeInto renameEntry renameFact keyDeclared factDeclared
 into-listed d s l m qs g = record {
-  keysRise = refile-rises (map (renameEntry s l) (m .keys)) ([], map (renamePair s l) qs) tt;
+  keysRise = refile-rises (inOrder (map (renameEntry s l) (m .keys))) ([], map (renamePair s l) qs) tt;
   factsRise = refact-rises (map (renameFact s l) (m .facts)) [] tt;
-  keysDeclared = refile-all (λ (x : Entry). T (keyDeclared d x)) (map (renameEntry s l) (m .keys)) ([], map (renamePair s l) qs)
+  keysDeclared = refile-all (λ (x : Entry). T (keyDeclared d x)) (inOrder (map (renameEntry s l) (m .keys))) ([], map (renamePair s l) qs)
+      (inOrder-all (λ (x : Entry). T (keyDeclared d x)) (map (renameEntry s l) (m .keys))
       (all-map (λ (x : Entry). T (keyDeclared d x)) (λ (x : Entry). T (keyDeclared d x)) (renameEntry s l)
-      (λ x t. subst (λ n. T (declaredAs d (x .0 .kind) (x .0 .symbol) n)) (sym (length-map (x .0 .args) (rename s l))) t) (m .keys) (g .keysDeclared)) tt;
+      (λ x t. subst (λ n. T (declaredAs d (x .0 .kind) (x .0 .symbol) n)) (sym (length-map (x .0 .args) (rename s l))) t) (m .keys) (g .keysDeclared))) tt;
   factsDeclared = refact-all (λ (f : Fact). T (factDeclared d f)) (map (renameFact s l) (m .facts)) []
       (all-map (λ (f : Fact). T (factDeclared d f)) (λ (f : Fact). T (factDeclared d f)) (renameFact s l)
       (λ f t. subst (λ n. T (hasArity (d .relations) (f .relation) n)) (sym (length-map (f .args) (rename s l))) t) (m .facts) (g .factsDeclared)) tt;

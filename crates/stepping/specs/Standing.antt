@@ -192,6 +192,7 @@ module _ (text p : Bytes) (z : Standing text p) where
       sturdy = record {
         formed = u .holds .formed;
         few = omega arith;
+        even = omega arith;
         rising = subst Rising (sym (u .holds .shows .keys)) (rising-is (arityOf (namesIn text)) (sheet .model .keys) (neat-keys-fit (namesIn text) small L (sheet .model) neat (omega arith)) (neat .listed .keysRise));
         held = subst Rising (sym (u .holds .shows .facts)) (facts-rising-is (arityOf (namesIn text)) (sheet .model .facts)
             (neat-facts-shown (namesIn text) small L (sheet .model) neat (omega arith) _ refl .factsFit) (neat .listed .factsRise));

@@ -2,4 +2,5 @@
 pub mod Table
 pub mod Shift
 pub mod Ways
+pub mod Last
 pub mod Carry

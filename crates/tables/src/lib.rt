@@ -5,7 +5,9 @@ ghost use mathlib.Core.List.{_++_};
 ghost use Prim.Native.Nat.{_+_, _≤_, _<_};
 ghost use lib.ListN.{length, take, drop};
 ghost use Rattle.tables.specs.Table.{rank, lookIn, orNone, isSome, Rising, insertAt};
+ghost use Rattle.packing.specs.Replace.{keyOf};
 ghost use Rattle.tables.specs.Ways.{Put};
+ghost use Rattle.tables.specs.Last.{NoneAbove};
 
 // How many entries stand before the first whose key is not below q, by halving.
 pub fn rank(t: &[u64], n: usize, q: u64) -> usize
@@ -86,5 +88,38 @@ pub fn put(t: &mut [u64], n: usize, x: u64) -> usize
         return n;
     }
     insert(t, n, at, x);
+    n + 1
+}
+
+// The value of key q where no key is above it, so that only the last can be it.
+pub fn look_last(t: &[u64], n: usize, q: u64) -> u64
+    requires { ⌜ (n ≤ length (now t)) × (Rising (take n (now t)) × NoneAbove q (take n (now t))) ⌝ }
+    ensures { λ r. ⌜ (r ≡ orNone (lookIn q (take n (now (t .entry))))) × (r ≤ 256) ⌝ }
+{
+    if n == 0 {
+        return 256;
+    }
+    let x = t[n - 1];
+    if x / 256 == q {
+        return x % 256;
+    }
+    256
+}
+
+// The entry x put in where no key is above its own: behind the last, or over it. Nothing moves. The count afterwards.
+pub fn put_last(t: &mut [u64], n: usize, x: u64) -> usize
+    requires { ⌜ (n < length (now t)) × (Rising (take n (now t)) × NoneAbove (keyOf x) (take n (now t))) ⌝ }
+    ensures { λ r. ⌜ Put x n (now (t .entry)) r (now (t .exit)) ⌝ }
+{
+    if n == 0 {
+        t[n] = x;
+        return n + 1;
+    }
+    let old = t[n - 1];
+    if old / 256 == x / 256 {
+        t[n - 1] = x;
+        return n;
+    }
+    t[n] = x;
     n + 1
 }

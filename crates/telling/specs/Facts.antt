@@ -99,6 +99,7 @@ module _ (lim : Limits) (k n x : ℕ) (w ys : List ℕ) (s : Sturdy lim w) (ek :
       facts = omega (arith, count-is);
     };
     few = s .few;
+    even = s .even;
     rising = subst (λ (v : View). Rising (v .keys)) (sym view-is) (unfold holding in s .rising);
     held = subst (λ (v : View). Rising (v .facts)) (sym view-is) (unfold holding in put-rises x (viewOf lim w .facts) (s .held));
   }

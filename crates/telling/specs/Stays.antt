@@ -24,13 +24,14 @@ use Rattle.soundness.specs.Join.{merge-linked}
 use Rattle.soundness.specs.Neat.{Small, merge-listed}
 use Rattle.soundness.specs.Enter.{Tidy}
 use Rattle.packing.specs.Pack.{arityOf}
-use Rattle.tables.specs.Table.{Rising, put-rises}
-use Rattle.filing.specs.File.{Files, fileIn, refileIn, refactIn}
+use Rattle.tables.specs.Table.{Rising}
+use Rattle.filing.specs.File.{refile-rises, refact-rises, rising-sorted}
 use Rattle.filing.specs.Carry.{packPair}
 use Rattle.joining.specs.Work.{Work, waiting, intoIn, nextIn, mergeAllIn, loweredIn}
 use Rattle.joining.specs.Carry.{mergedIn}
 use Rattle.joining.specs.Carry as joining
 use Rattle.merge.specs.Held.{HoldsNow}
+use Rattle.merge.specs.Into.{Orderly}
 use Rattle.merge.specs.Merged.{workIn, MergedForm}
 use Rattle.look.specs.Shown.{neat-keys-fit, neat-facts-shown}
 use Rattle.sheets.specs.Form.{View, viewOf, Formed}
@@ -47,15 +48,9 @@ small-fits lim m s =
 
 -- ---- a merge
 
-refile-rises : (xs : List ℕ) (r : Files) → Rising (r .0) → Rising (refileIn xs r .0)
-unfolding refileIn fileIn
-refile-rises [] r g = g
-refile-rises (x ∷ xs) r g = refile-rises xs (fileIn x r) (put-rises x (r .0) g)
-
-refact-rises : (xs done : List ℕ) → Rising done → Rising (refactIn xs done)
-unfolding refactIn
-refact-rises [] done g = g
-refact-rises (x ∷ xs) done g = refact-rises xs _ (put-rises x done g)
+pub sturdy-orderly : (lim : Limits) (w : List ℕ) → Sturdy lim w → Orderly lim w
+unfolding viewOf
+sturdy-orderly lim w s = record { even = s .even; keys = rising-sorted _ (s .rising); facts = rising-sorted _ (s .held) }
 
 abbrev Rises : Work → Type 0
 Rises v = Rising (v .keys) × Rising (v .facts)
@@ -74,7 +69,7 @@ pub merged-sturdy : (lim : Limits) (a b : ℕ) (w w′ : List ℕ) → Sturdy li
 unfolding mergedIn
 merged-sturdy lim a b w w′ s g =
     let r = all-rises (suc (length (viewOf lim w .keys))) (waiting (packPair (a, b) ∷ []) (workIn (viewOf lim w))) (s .rising, s .held) in
-    record { formed = g .formed; few = s .few; rising = subst Rising (sym (g .tables .keys)) (r .0); held = subst Rising (sym (g .tables .facts)) (r .1) }
+    record { formed = g .formed; few = s .few; even = s .even; rising = subst Rising (sym (g .tables .keys)) (r .0); held = subst Rising (sym (g .tables .facts)) (r .1) }
 
 -- What each element is now is below 256.
 abbrev pub Digits : Limits → History → Type 0

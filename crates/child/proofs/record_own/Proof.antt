@@ -2,7 +2,7 @@ use native.Mathlib.Omega.{arith}
 use mathlib.Core.Path.{_≡_, refl, sym, ap, _∙_, subst}
 use Rattle.sheets.specs.Form.{limitsOf, viewOf}
 use lib.ListN.{take}
-use Rattle.telling.specs.Stays.{merged-sturdy}
+use Rattle.telling.specs.Stays.{merged-sturdy, sturdy-orderly}
 use Rattle.child.specs.Own.{own-full, own-full-2, own-merged}
 use borrow.Author.Needs.{needs}
 use Rattle.child.proofs.record_own.Statement.{statement}
@@ -40,7 +40,9 @@ returns-2 c =
     (h .0 .1, own-full-2 (limitsOf (a .le) (a .lk) (a .lf)) (take (a .ne) (a .env .now)) (a .v) (a .w .now) _ _ (g .1) (omega arith) _ _ (h .1) (c .if2 .taken))
 
 merge-requires : tie.Need-merge-requires
-merge-requires c κs = search needs
+merge-requires c κs =
+    let h = c .before .before .before .before .enter-variable2 .ensures in
+    (h .0 .1 .formed, (sturdy-orderly _ _ (h .0 .1), (search needs, search needs)))
 
 same-length-3 : tie.Need-same-length-3
 same-length-3 c = search needs

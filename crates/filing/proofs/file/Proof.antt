@@ -5,14 +5,14 @@ use Rattle.filing.proofs.file.Statement.{statement}
 use Rattle.filing.proofs.file.Tie as tie
 use Rattle.filing.proofs.file.Reads as reads
 use Rattle.filing.proofs.file.Lts as lts
-use Rattle.tables.proofs.look.Reads as look-reads
-use Rattle.tables.proofs.put.Reads as put-reads
+use Rattle.tables.proofs.look_last.Reads as look-last-reads
+use Rattle.tables.proofs.put_last.Reads as put-last-reads
 
-look-requires : tie.Need-look-requires
-look-requires c κs = search needs
+look-last-requires : tie.Need-look-last-requires
+look-last-requires c κs = search needs
 
-put-requires : tie.Need-put-requires
-put-requires c κs = search needs
+put-last-requires : tie.Need-put-last-requires
+put-last-requires c κs = search needs
 
 mul-t : tie.Need-mul-t
 mul-t c = search needs
@@ -40,7 +40,7 @@ returns c =
     let p = c .before .before .before in
     let s = p .before .before .before .before .before in
     let a = s .args in
-    filed-pair (a .x) (a .n) (a .top) _ _ (a .t .now) _ (p .put .ensures) (omega arith) (s .pre .0) (s .pre .1 .0) (s .pre .1 .1) (p .before .before .look .ensures .0) (c .if1 .taken)
+    filed-pair (a .x) (a .n) (a .top) _ _ (a .t .now) _ (p .put-last .ensures) (omega arith) (s .pre .0) (s .pre .1 .0) (s .pre .1 .1 .0) (p .before .before .look-last .ensures .0) (c .if1 .taken)
 
 same-length-2 : tie.Need-same-length-2
 same-length-2 c = search needs
@@ -50,14 +50,14 @@ returns-2 c =
     let p = c .before .before .before in
     let s = p .before .before .before .before .before in
     let a = s .args in
-    filed-new (a .x) (a .n) (a .top) _ _ (a .t .now) _ (p .put .ensures) (omega arith) (s .pre .0) (s .pre .1 .0) (s .pre .1 .1) (p .before .before .look .ensures .0) (c .if1 .left)
+    filed-new (a .x) (a .n) (a .top) _ _ (a .t .now) _ (p .put-last .ensures) (omega arith) (s .pre .0) (s .pre .1 .0) (s .pre .1 .1 .0) (p .before .before .look-last .ensures .0) (c .if1 .left)
 
 pub file-spec : {M : Type 1} → statement M
 file-spec =
     tie.close
     (tie.spec
-    look-requires
-    put-requires
+    look-last-requires
+    put-last-requires
     mul-t
     add-t
     sub-t

@@ -1,12 +1,12 @@
 use Prim.Native.Nat.{_-_}
 use native.Mathlib.Omega.{arith}
 use borrow.Author.Needs.{needs}
-use Rattle.filing.specs.File.{Refacting, refacting-start, refacting-next, refacting-end}
+use Rattle.filing.specs.File.{Refacting, refacting-start, refacting-none, refacting-next, refacting-end}
 use Rattle.filing.proofs.refact.Statement.{statement}
 use Rattle.filing.proofs.refact.Tie as tie
 use Rattle.filing.proofs.refact.Reads as reads
 use Rattle.filing.proofs.refact.Lts as lts
-use Rattle.tables.proofs.put.Reads as put-reads
+use Rattle.tables.proofs.put_last.Reads as put-last-reads
 
 abbrev Inv-loop : tie.InvT-loop
 Inv-loop t₀ n count₀ i₀ t count i = Refacting t₀ n t count i
@@ -17,7 +17,7 @@ abbrev μ-loop : tie.MeasureT-loop
 loop-holds : tie.Need-loop-holds Inv-loop μ-loop
 loop-holds c =
     let s = c .before in
-    refacting-start (s .args .t .now) (s .args .n) (s .pre)
+    refacting-start (s .args .t .now) (s .args .n) (s .pre .0) (s .pre .1)
 
 mul-x : tie.Need-mul-x Inv-loop μ-loop
 mul-x c = search needs
@@ -25,10 +25,11 @@ mul-x c = search needs
 slice-read-x : tie.Need-slice-read-x Inv-loop μ-loop
 slice-read-x c = search needs
 
-put-requires : tie.Need-put-requires Inv-loop μ-loop
-put-requires c κs =
+put-last-requires : tie.Need-put-last-requires Inv-loop μ-loop
+put-last-requires c κs =
     let p = c .before .before .before in
-    (omega arith, p .loop .inv .rising)
+    let s = p .before .before in
+    (omega arith, (p .loop .inv .rising, refacting-none (s .args .t .now) (s .args .n) (s .pre .0) (p .loop .t) (p .loop .count) (p .loop .i) (p .loop .inv) (omega arith)))
 
 add-i : tie.Need-add-i Inv-loop μ-loop
 add-i c = search needs
@@ -41,7 +42,7 @@ loop-again c =
     let f = c .before .before in
     let p = f .before .before .before .before in
     let s = p .before .before in
-    refacting-next (s .args .t .now) (s .args .n) (s .pre) (p .loop .t) _ (p .loop .count) (p .loop .i) _ (p .loop .inv) (omega arith) (omega arith) (f .put .ensures)
+    refacting-next (s .args .t .now) (s .args .n) (s .pre .0) (p .loop .t) _ (p .loop .count) (p .loop .i) _ (p .loop .inv) (omega arith) (omega arith) (f .put-last .ensures)
 
 same-length : tie.Need-same-length Inv-loop μ-loop
 same-length c = c .before .loop .inv .size
@@ -50,7 +51,7 @@ returns : tie.Need-returns Inv-loop μ-loop
 returns c =
     let p = c .before in
     let s = p .before .before in
-    refacting-end (s .args .t .now) (s .args .n) (s .pre) (p .loop .t) (p .loop .count) (p .loop .i) (p .loop .inv) (omega arith)
+    refacting-end (s .args .t .now) (s .args .n) (s .pre .0) (p .loop .t) (p .loop .count) (p .loop .i) (p .loop .inv) (omega arith)
 
 pub refact-spec : {M : Type 1} → statement M
 refact-spec =
@@ -61,7 +62,7 @@ refact-spec =
     loop-holds
     mul-x
     slice-read-x
-    put-requires
+    put-last-requires
     add-i
     loop-less
     loop-again

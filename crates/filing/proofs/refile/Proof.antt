@@ -1,7 +1,7 @@
 use Prim.Native.Nat.{_-_}
 use native.Mathlib.Omega.{arith}
 use borrow.Author.Needs.{needs}
-use Rattle.filing.specs.File.{Refiling, refiling-start, refiling-next, refiling-end}
+use Rattle.filing.specs.File.{Refiling, refiling-start, refiling-none, refiling-next, refiling-end}
 use Rattle.filing.proofs.refile.Statement.{statement}
 use Rattle.filing.proofs.refile.Tie as tie
 use Rattle.filing.proofs.refile.Reads as reads
@@ -17,7 +17,7 @@ abbrev μ-loop : tie.MeasureT-loop
 loop-holds : tie.Need-loop-holds Inv-loop μ-loop
 loop-holds c =
     let s = c .before in
-    refiling-start (s .args .t .now) (s .args .n) (s .args .top) (s .pre .0) (s .pre .1)
+    refiling-start (s .args .t .now) (s .args .n) (s .args .top) (s .pre .0) (s .pre .1 .0) (s .pre .1 .1)
 
 mul-x : tie.Need-mul-x Inv-loop μ-loop
 mul-x c = search needs
@@ -28,7 +28,8 @@ slice-read-x c = search needs
 file-requires : tie.Need-file-requires Inv-loop μ-loop
 file-requires c κs =
     let p = c .before .before .before in
-    (omega arith, (omega arith, p .loop .inv .rising))
+    let s = p .before .before in
+    (omega arith, (omega arith, (p .loop .inv .rising, refiling-none (s .args .t .now) (s .args .n) (s .args .top) (s .pre .0) (s .pre .1 .0) (p .loop .t) (p .loop .count) (p .loop .up) (p .loop .i) (p .loop .inv) (omega arith))))
 
 add-i : tie.Need-add-i Inv-loop μ-loop
 add-i c = search needs
@@ -41,7 +42,7 @@ loop-again c =
     let f = c .before .before in
     let p = f .before .before .before .before in
     let s = p .before .before in
-    refiling-next (s .args .t .now) (s .args .n) (s .args .top) (s .pre .0) (s .pre .1) (p .loop .t) _ (p .loop .count) (p .loop .up) (p .loop .i) _ _ (p .loop .inv) (omega arith) (omega arith) (f .file .ensures)
+    refiling-next (s .args .t .now) (s .args .n) (s .args .top) (s .pre .0) (s .pre .1 .0) (p .loop .t) _ (p .loop .count) (p .loop .up) (p .loop .i) _ _ (p .loop .inv) (omega arith) (omega arith) (f .file .ensures)
 
 same-length : tie.Need-same-length Inv-loop μ-loop
 same-length c = c .before .loop .inv .size
@@ -50,7 +51,7 @@ returns : tie.Need-returns Inv-loop μ-loop
 returns c =
     let p = c .before in
     let s = p .before .before in
-    refiling-end (s .args .t .now) (s .args .n) (s .args .top) (s .pre .0) (s .pre .1) (p .loop .t) (p .loop .count) (p .loop .up) (p .loop .i) (p .loop .inv) (omega arith)
+    refiling-end (s .args .t .now) (s .args .n) (s .args .top) (s .pre .0) (s .pre .1 .0) (p .loop .t) (p .loop .count) (p .loop .up) (p .loop .i) (p .loop .inv) (omega arith)
 
 pub refile-spec : {M : Type 1} → statement M
 refile-spec =

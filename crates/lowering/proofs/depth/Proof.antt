@@ -1,7 +1,7 @@
 -- A depth of the region is read at its place in the whole; behind the region there is 0.
 use mathlib.Core.Path.{sym}
 use native.Mathlib.Omega.{arith}
-use Rattle.lowering.specs.Kept.{part-at, part-out}
+use Rattle.images.specs.Kept.{part-at, part-out}
 use borrow.Author.Needs.{needs}
 use Rattle.lowering.proofs.depth.Statement.{statement}
 use Rattle.lowering.proofs.depth.Tie as tie

@@ -1,13 +1,13 @@
 -- The three ways out: no such element, no less, less.
 use Prim.Native.Nat.{_+_, _<_, _≤_}
-use Rattle.lowering.specs.Kept.{part-size}
+use Rattle.images.specs.Kept.{part-size}
 use lib.ListN.{getD}
 use Rattle.lowering.specs.Lower.{lowest}
 use Rattle.lowering.specs.Rest.{lowered-none, lowered-not, lowered-less}
 use Rattle.packing.specs.Replace.{valueOf}
 use mathlib.Core.Path.{ap}
 use native.Mathlib.Omega.{arith}
-use Rattle.lowering.specs.Kept.{part-at}
+use Rattle.images.specs.Kept.{part-at}
 use borrow.Author.Needs.{needs}
 use Rattle.lowering.proofs.lower_at.Statement.{statement}
 use Rattle.lowering.proofs.lower_at.Tie as tie

@@ -1,6 +1,6 @@
 -- The region came back merged, and all else is kept.
 use mathlib.Core.Path.{_≡_}
-use Rattle.merge.specs.Lent.{lent}
+use Rattle.joining.specs.Lent.{lent}
 use Rattle.rules.specs.Merge.{mergeDepths}
 use Prim.Native.Nat.{_+_, _-_}
 use native.Mathlib.Omega.{arith}

@@ -1,7 +1,8 @@
 -- The region came back renamed, and all else is kept.
 use mathlib.Core.List.{map}
 use mathlib.Core.Path.{_≡_}
-use Rattle.merge.specs.Lent.{lent, all-front}
+use Rattle.joining.specs.Lent.{lent}
+use Rattle.merge.specs.Regions.{all-front}
 use Rattle.packing.specs.Replace.{replaced}
 use Prim.Native.Nat.{_+_, _-_}
 use native.Mathlib.Omega.{arith}

@@ -1,6 +1,7 @@
 -- The region came back joined, and all else is kept.
 use Rattle.joining.specs.Leaf.{JoinedKeys}
-use Rattle.merge.specs.Lent.{lent}
+use Rattle.joining.specs.Lent.{lent}
+use Rattle.merge.specs.Regions.{part-sorted}
 use Prim.Native.Nat.{_+_, _-_}
 use native.Mathlib.Omega.{arith}
 use borrow.Author.Needs.{needs}
@@ -26,7 +27,10 @@ part-join-keys-end : tie.Need-part-join-keys-end
 part-join-keys-end c = search needs
 
 join-keys-requires : tie.Need-join-keys-requires
-join-keys-requires c κs = search needs
+join-keys-requires c κs =
+    let s = c .before .before in
+    let a = s .args in
+    (s .pre .1 .0, (search needs, (s .pre .1 .1 .1 .0, (s .pre .1 .1 .1 .1 .0, part-sorted (a .at) (a .room) (a .n) (a .at + a .room - a .at) (a .w .now) (omega arith) (omega (arith, s .pre)) (s .pre .1 .1 .1 .1 .1)))))
 
 same-length : tie.Need-same-length
 same-length c = search needs

@@ -31,7 +31,7 @@ merge-all-requires : tie.Need-merge-all-requires
 merge-all-requires c κs =
     let s = c .before .before in
     let a = s .args in
-    first-stacked (limitsOf (a .le) (a .lk) (a .lf)) (a .a) (a .b) (a .w .now) (s .pre .0)
+    first-stacked (limitsOf (a .le) (a .lk) (a .lf)) (a .a) (a .b) (a .w .now) (s .pre .0) (s .pre .1 .0)
 
 slice-read-created : tie.Need-slice-read-created
 slice-read-created c = search needs
@@ -58,7 +58,7 @@ returns : tie.Need-returns
 returns c =
     let s = c .before .before .before .before .before .before .before .before .before .before .before in
     let a = s .args in
-    merged-made (limitsOf (a .le) (a .lk) (a .lf)) (a .a) (a .b) (s .pre .1 .0) (s .pre .1 .1) (a .w .now) (s .pre .0) _ _ (c .before .before .before .before .before .before .before .before .merge-all .ensures) (c .before .before .lower .ensures)
+    merged-made (limitsOf (a .le) (a .lk) (a .lf)) (a .a) (a .b) (s .pre .1 .1 .0) (s .pre .1 .1 .1) (a .w .now) (s .pre .0) _ _ (c .before .before .before .before .before .before .before .before .merge-all .ensures) (c .before .before .lower .ensures)
 
 pub merge-spec : {M : Type 1} → statement M
 merge-spec =

@@ -1,15 +1,17 @@
 -- The four regions, the two counts, and what they say together.
-use Rattle.merge.specs.Into.{into-made}
-use Rattle.sheets.specs.Form.{limitsOf}
-use lib.ListN.{length-set}
+use mathlib.Core.Path.{sym, subst}
 use native.Mathlib.Omega.{arith}
+use lib.ListN.{length-set}
+use Rattle.renaming.specs.Order.{Sorted}
+use Rattle.sheets.specs.Form.{limitsOf}
+use Rattle.merge.specs.Into.{keys₁, into-made}
 use borrow.Author.Needs.{needs}
 use Rattle.merge.proofs.merge_into.Statement.{statement}
 use Rattle.merge.proofs.merge_into.Tie as tie
 use Rattle.merge.proofs.merge_into.Reads as reads
 use Rattle.merge.proofs.merge_into.Lts as lts
+use Rattle.joining.proofs.join_facts.Reads as join-facts-reads
 use Rattle.merge.proofs.depths_joined.Reads as depths-joined-reads
-use Rattle.merge.proofs.facts_joined.Reads as facts-joined-reads
 use Rattle.merge.proofs.history_joined.Reads as history-joined-reads
 use Rattle.merge.proofs.keys_joined.Reads as keys-joined-reads
 
@@ -34,6 +36,16 @@ add-d c = search needs
 add-h : tie.Need-add-h
 add-h c = search needs
 
+add-join-facts : tie.Need-add-join-facts
+add-join-facts c = search needs
+
+join-facts-requires : tie.Need-join-facts-requires
+join-facts-requires c κs =
+    let s = c .before .before .before .before .before in
+    let g = s .pre .0 in
+    let o = s .pre .1 .0 in
+    (omega (arith, g .keys, g .facts, o .even), (omega (arith, g .size, g .facts), (s .pre .1 .1 .1 .1 .0, (s .pre .1 .1 .1 .1 .1, o .facts))))
+
 add-keys-joined : tie.Need-add-keys-joined
 add-keys-joined c = search needs
 
@@ -41,10 +53,27 @@ add-keys-joined-2 : tie.Need-add-keys-joined-2
 add-keys-joined-2 c = search needs
 
 keys-joined-requires : tie.Need-keys-joined-requires
-keys-joined-requires c κs = search needs
-
-facts-joined-requires : tie.Need-facts-joined-requires
-facts-joined-requires c κs = search needs
+keys-joined-requires c κs =
+    let s = c .before .before .before .before .before .before .before .before .before in
+    let a = s .args in
+    let g = s .pre .0 in
+    let o = s .pre .1 .0 in
+    let j = c .before .before .before .join-facts .ensures in (
+      omega (arith, g .size, j .elsewhere .size),
+      (
+        omega (arith, g .keys, s .pre .1 .1 .0),
+        (
+          s .pre .1 .1 .1 .0,
+          (
+            s .pre .1 .1 .1 .1 .0,
+            (
+              s .pre .1 .1 .1 .1 .1,
+              subst Sorted (sym (keys₁ (limitsOf (a .le) (a .lk) (a .lf)) (a .s) (a .l) _ (a .w .now) _ g o j)) (o .keys),
+            ),
+          ),
+        ),
+      ),
+    )
 
 depths-joined-requires : tie.Need-depths-joined-requires
 depths-joined-requires c κs = search needs
@@ -65,8 +94,8 @@ returns : tie.Need-returns
 returns c =
     let s = c .before .before .before .before .before .before .before .before .before .before .before .before .before .before .before .before .before .before .before .before in
     let a = s .args in
-    into-made (limitsOf (a .le) (a .lk) (a .lf)) (a .s) (a .l) (a .top) _ _ _ (a .w .now) _ _ _ _ (s .pre .0) (s .pre .1 .1 .0)
-    (c .before .before .before .before .before .before .before .before .before .before .before .before .before .before .keys-joined .ensures) (c .before .before .before .before .before .before .before .before .before .before .facts-joined .ensures) (c .before .before .before .before .before .before .depths-joined .ensures) (c .before .before .history-joined .ensures)
+    into-made (limitsOf (a .le) (a .lk) (a .lf)) (a .s) (a .l) (a .top) _ _ _ (a .w .now) _ _ _ _ (s .pre .0) (s .pre .1 .0) (s .pre .1 .1 .0) (s .pre .1 .1 .1 .0)
+    (c .before .before .before .before .before .before .before .before .before .before .before .before .before .before .join-facts .ensures) (c .before .before .before .before .before .before .before .before .before .before .keys-joined .ensures) (c .before .before .before .before .before .before .depths-joined .ensures) (c .before .before .history-joined .ensures)
 
 pub merge-into-spec : {M : Type 1} → statement M
 merge-into-spec =
@@ -79,10 +108,11 @@ merge-into-spec =
     add-f-2
     add-d
     add-h
+    add-join-facts
+    join-facts-requires
     add-keys-joined
     add-keys-joined-2
     keys-joined-requires
-    facts-joined-requires
     depths-joined-requires
     history-joined-requires
     slice-write-w

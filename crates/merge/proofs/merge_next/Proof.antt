@@ -31,7 +31,11 @@ add-merge-into : tie.Need-add-merge-into
 add-merge-into c = search needs
 
 merge-into-requires : tie.Need-merge-into-requires
-merge-into-requires c κs = search needs
+merge-into-requires c κs =
+    let f = c .before .before in
+    let s = f .before .before .before in
+    let g = s .pre .0 in
+    (g .formed, (g .orderly, (omega (arith, g .room), (omega arith, (omega arith, omega arith)))))
 
 same-length : tie.Need-same-length
 same-length c = search needs
@@ -47,7 +51,11 @@ add-merge-into-2 : tie.Need-add-merge-into-2
 add-merge-into-2 c = search needs
 
 merge-into-requires-2 : tie.Need-merge-into-requires-2
-merge-into-requires-2 c κs = search needs
+merge-into-requires-2 c κs =
+    let f = c .before .before in
+    let s = f .before .before .before in
+    let g = s .pre .0 in
+    (g .formed, (g .orderly, (omega (arith, g .room), (omega arith, (omega arith, omega arith)))))
 
 same-length-2 : tie.Need-same-length-2
 same-length-2 c = search needs

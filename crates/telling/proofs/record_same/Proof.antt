@@ -2,7 +2,7 @@ use native.Mathlib.Omega.{arith}
 use mathlib.Core.Path.{sym, ap, _∙_, subst}
 use Rattle.sheets.specs.Form.{limitsOf, viewOf}
 use lib.ListN.{take}
-use Rattle.telling.specs.Stays.{merged-sturdy}
+use Rattle.telling.specs.Stays.{merged-sturdy, sturdy-orderly}
 use Rattle.telling.specs.Ways.{same-full, same-full-2, same-merged}
 use borrow.Author.Needs.{needs}
 use Rattle.telling.proofs.record_same.Statement.{statement}
@@ -41,7 +41,7 @@ merge-requires : tie.Need-merge-requires
 merge-requires c κs =
     let h = rw (c .before .before .b .given .1) at (c .before .before .before .before .before .before .enter-term2 .ensures .0) in
     let g = rw (c .before .before .before .before .before .before .before .before .before .a .given .1) at (c .before .before .before .before .before .before .before .before .before .before .before .before .before .enter-term .ensures .0) in
-    (h .1 .formed, (g .0 .0, h .0 .0))
+    (h .1 .formed, (sturdy-orderly _ _ (h .1), (g .0 .0, h .0 .0)))
 
 same-length : tie.Need-same-length
 same-length c = search needs

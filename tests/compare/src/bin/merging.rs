@@ -5,11 +5,11 @@
 //! over the pairs of what there is when they are merged; LOWERED are the keys that a pass of lowering
 //! goes over. The reference makes the step, and tells these numbers.
 
-use compare::chains::{along, book_over, down, into_one, waiting, with};
-use compare::corners::{a, application, b, constant, f, sheet};
+use compare::chains::{along, down, into_one, waiting, with};
+use compare::corners::{a, application, b, constant, f, rule, same, sheet};
 use compare::judge::sparse;
 use compare::recorded::hex;
-use generator::draft::Term;
+use generator::draft::{Draft, Term};
 use reference::book::{argument, head};
 use reference::calls::step_with;
 use reference::child::Bound;
@@ -36,6 +36,13 @@ impl Watch for Told {
     fn lowering_done(&mut self, passes: usize, keys: usize, living: usize) {
         (self.passes, self.lowered, self.living) = (self.passes + passes, keys, living);
     }
+}
+
+/// Constants, functions and relations of one, two and four arguments; and one identity.
+fn book(left: Term, right: Term) -> Vec<u8> {
+    let sequents = vec![rule(0, vec![], vec![vec![same(left, right)]])];
+    let (functions, relations) = (vec![1, 2, 4], vec![1, 2, 4]);
+    Draft { constants: 64, functions, relations, sequents, ..Default::default() }.bytes()
 }
 
 /// A step to be made: one identity on one sheet.
@@ -75,10 +82,31 @@ fn passing(keys: usize, facts: usize) -> Case {
         let half = |first: usize| (0..count / 2).map(move |i| entry(kind, first, i));
         half(1).chain(half(63)).collect::<Vec<u64>>()
     };
-    let named = |c: u8| constant(c, if c % 62 == 1 { 64 - c as u64 } else { c as u64 });
-    let constants: Vec<u64> = (0..64).map(named).collect();
-    let start = sheet(64, &with(&constants, halves(2, keys)), &halves(0, facts));
+    let start = sheet(64, &with(&named(), halves(2, keys)), &halves(0, facts));
     Case::new("one pair, half passes half", (a(), b()), start)
+}
+
+/// 64 constants, whose first two are elements 0 and 63.
+fn named() -> Vec<u64> {
+    (0..64).map(|c| constant(c, if c % 62 == 1 { 64 - c as u64 } else { c as u64 })).collect()
+}
+
+/// One pair, 0 and 63, where so many further keys and facts over four elements have 63 at every
+/// choice of their places but all four: fifteen rows, which pass through one another.
+fn crossing(keys: usize, facts: usize) -> Case {
+    let rows = |kind: u8, count: usize| {
+        let place = |ways: usize, i: usize, row: usize| {
+            argument(i, if ways >> i & 1 == 1 { 63 } else { 1 + row as u8 })
+        };
+        let over = |ways: usize, row: usize| {
+            (0..4).fold(head(kind, 2, 4), |entry, i| entry | place(ways, i, row))
+        };
+        let mut rows: Vec<u64> = (0..count).map(|e| over(e % 15, e / 15)).collect();
+        rows.sort_unstable();
+        rows
+    };
+    let start = sheet(64, &with(&named(), rows(2, keys)), &rows(0, facts));
+    Case::new("one pair, fifteen rows pass through one another", (a(), b()), start)
 }
 
 /// Depths that fall one after another, a pass for each.
@@ -93,6 +121,8 @@ fn cases() -> Vec<Case> {
     cases.extend([0, 16, 32, 64, 96, 128].map(|facts| staying(12, facts)));
     cases.extend([0, 16, 32, 64].map(|keys| passing(keys, 0)));
     cases.extend([16, 32, 64, 96, 128].map(|facts| passing(0, facts)));
+    cases.extend([15, 30, 60].map(|keys| crossing(keys, 0)));
+    cases.extend([15, 30, 60, 120].map(|facts| crossing(0, facts)));
     cases.extend([15, 31, 47].map(falling));
     let chains = into_one().into_iter().chain(along());
     cases.extend(chains.map(|chain| Case::new(chain.what, chain.sides, chain.start)));
@@ -101,7 +131,7 @@ fn cases() -> Vec<Case> {
 
 fn main() {
     for Case { what, sides: (left, right), start } in cases() {
-        let (book, mut pool) = (book_over(vec![1, 2], left, right), waiting(&start, 0));
+        let (book, mut pool) = (book(left, right), waiting(&start, 0));
         println!("book {}\n{}", hex(&book), sparse(&pool));
         let mut told = Told::default();
         let answer =

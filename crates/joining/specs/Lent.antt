@@ -1,15 +1,13 @@
--- A region of a list that was lent and came back: all else is kept. And what joining makes of each region.
+-- A region of a list that was lent and came back: all else is kept.
 use mathlib.Core.Path.{_≡_, sym, ap, _∙_, subst}
 use Prim.Native.Nat.{ℕ, _+_, _≤_}
 use native.Mathlib.Omega.{arith}
-use mathlib.Core.List.{List, _++_, map, append-assoc}
+use mathlib.Core.List.{List, _++_, append-assoc}
 use lib.ListN.{length, take, drop, length-append, length-drop}
 use lib.Seq.{take-at, drop-at, drop-drop, length-take-le}
 use borrow.Rule.Slice.PartMut.{putMid}
 use Rattle.rules.specs.Image.{part}
-use Rattle.filing.specs.Front.{mapFront}
-use Rattle.lowering.specs.Kept.{Kept, part-size}
-use Rattle.joining.specs.Leaf.{JoinedKeys, JoinedFacts, front-all}
+use Rattle.images.specs.Kept.{Kept, part-size}
 
 module _ (a k : ℕ) (w ys : List ℕ) (fits : a + k ≤ length w) (size : length ys ≡ k) where
   start : length (take a w) ≡ a
@@ -49,20 +47,3 @@ lent P at room k w ys e fits size j =
       kept = kept-lent at room w ys fits whole;
       made = subst (P (part at room w)) (sym (part-lent at room w ys fits whole)) (subst (λ r. P (take r (drop at w)) ys) e j);
     })
-
--- ---- what joining makes of the regions
-
-abbrev pub KeysAt : (at room n top s l : ℕ) (w : List ℕ) (count up : ℕ) (w′ : List ℕ) → Type 0
-KeysAt at room n top s l w count up w′ = Lent (λ t u. JoinedKeys s l n top t count up u) at room w w′
-
-abbrev pub FactsAt : (at room n s l : ℕ) (w : List ℕ) (count : ℕ) (w′ : List ℕ) → Type 0
-FactsAt at room n s l w count w′ = Lent (λ t u. JoinedFacts s l n t count u) at room w w′
-
--- A region that went through a function.
-abbrev pub RegionAt : (f : List ℕ → List ℕ) (at n : ℕ) (w w′ : List ℕ) → Type 0
-RegionAt f at n w w′ = Lent (λ t u. u ≡ f t) at n w w′
-
--- A front that is all of the region.
-pub all-front : (g : ℕ → ℕ) (at n k : ℕ) (w ys : List ℕ) → k ≡ n → at + n ≤ length w → ys ≡ mapFront g n (take k (drop at w)) → ys ≡ map g (take k (drop at w))
-unfolding part
-all-front g at n k w ys e fits j = j ∙ front-all g n (take k (drop at w)) (ap (λ m. length (take m (drop at w))) e ∙ part-size at n w fits)

@@ -49,6 +49,11 @@ drop-take (suc b) zero t = let e : 0 - suc b ≡ 0 = omega arith in ap (λ m. ta
 drop-take (suc b) (suc a) [] = sym (take-nil (suc a - suc b))
 drop-take (suc b) (suc a) (x ∷ t) = let e : suc a - suc b ≡ a - b = omega arith in drop-take b a t ∙ ap (λ m. take m (drop b t)) (sym e)
 
+-- The rest of a part.
+pub part-drop : (a n k : ℕ) (w : List ℕ) → drop k (part a n w) ≡ part (a + k) (n - k) w
+unfolding part
+part-drop a n k w = drop-take k n (drop a w) ∙ ap (take (n - k)) (drop-drop k a w)
+
 part-in : (b m a : ℕ) (t : List ℕ) → b + m ≤ a → part b m t ≡ drop b (take (b + m) (take a t))
 unfolding part
 part-in b m a t h =
