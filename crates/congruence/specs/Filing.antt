@@ -1,17 +1,15 @@
 -- Filing entries anew: each is there afterwards or has become a pair, of two values for one key. Filing facts loses none.
 use mathlib.Core.Path.{_≡_, sym, _∙_, subst}
-use Prim.Native.Nat.{ℕ, suc, _+_}
-use native.Mathlib.Omega.{arith}
+use Prim.Native.Nat.{ℕ}
 use mathlib.Core.Logic.{_⊎_, inl, inr}
 use mathlib.Core.Option.{some, Option·none-ne-some, Option·some-injective}
 use mathlib.Core.List.{List, [], _∷_}
-use lib.ListN.{length}
 use Rattle.base.specs.Lists.{All, Some}
 use Rattle.base.specs.BranchLaws.{caseO-elim, three-elim}
 use Rattle.rules.specs.Sheet.{Key, Fact, Entry, find, insertKey, insertFact}
 use Rattle.rules.specs.Merge.{Pair, Filed, file, refile, refact}
 use Rattle.laws.specs.Tables.{fact-eq, find-all, insertKey-all}
-use Rattle.soundness.specs.Tools.{insertKey-new, insertKey-old, insertKey-length}
+use Rattle.soundness.specs.Tools.{insertKey-new, insertKey-old}
 
 -- It makes pairs only of two values for one key.
 pub refile-makes : (Q : Entry → Type 0) (M : Pair → Type 0) → ((k : Key) (u v : ℕ) → Q (k, u) → Q (k, v) → M (u, v))
@@ -74,14 +72,3 @@ refact-has Q [] ds (inr s) = s
 refact-has Q (f ∷ fs) ds (inl (inl q)) = refact-has Q fs (insertFact f ds) (inr (insertFact-has Q f ds (inl q)))
 refact-has Q (f ∷ fs) ds (inl (inr s)) = refact-has Q fs (insertFact f ds) (inl s)
 refact-has Q (f ∷ fs) ds (inr s) = refact-has Q fs (insertFact f ds) (inr (insertFact-has Q f ds (inr s)))
-
--- A key that falls away has become a pair.
-pub refile-length : (xs : List Entry) (r : Filed) → length (refile xs r .0) + length (refile xs r .1) ≡ length xs + (length (r .0) + length (r .1))
-unfolding refile file
-refile-length [] r = omega arith
-refile-length (x ∷ xs) r =
-    let i = refile-length xs (file x r) in
-    let j : length (file x r .0) + length (file x r .1) ≡ suc (length (r .0) + length (r .1)) =
-    caseO-elim (λ (ps : List Pair). length (insertKey x (r .0)) + length ps ≡ suc (length (r .0) + length (r .1))) _ _ _
-    (λ e. let q = insertKey-length x (r .0) .0 e in omega arith) (λ v e. let q = insertKey-length x (r .0) .1 v e in omega arith) in
-    omega arith

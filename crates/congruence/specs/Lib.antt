@@ -1,5 +1,6 @@
 -- What merging makes of a sheet, said without pairs and rounds: the law that each way of merging meets, and that it determines the
--- merged sheet. `Merged` (in Merged) is the law, `merged-unique` says that one sheet meets it, `merge-merged` that `merge` does.
+-- merged sheet. `Merged` (in Merged) is the law, `merged-unique` says that one sheet meets it, `merge-merged` that `merge` does, and
+-- `merge-any-order` that merging by any order is `merge`.
 pub mod Forced
 pub mod Images
 pub mod Rising

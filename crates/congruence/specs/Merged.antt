@@ -1,22 +1,25 @@
 -- The law of merging: the sheet that it names is one, whatever the way it was made, and `merge` makes it.
 -- The survivors are determined by the congruences of the keys (Forced), keys and facts as rising lists of the survivors' images
--- (Rising), and depths by the keys (Depths). So merging a and b is merging b and a.
-use mathlib.Core.Path.{_≡_, refl, sym, ap, _∙_, subst}
+-- (Rising), and depths by the keys (Depths). Merging by any order meets the law: so whatever the order in which keys are filed and
+-- pairs are taken, it is `merge`; and merging a and b is merging b and a.
+use mathlib.Core.Path.{_≡_, refl, sym, _∙_, subst}
 use Prim.Native.Nat.{ℕ}
 use lib.Dec.{T}
 use Rattle.rules.specs.Book.{Names}
-use Rattle.rules.specs.Sheet.{Model, known, Limits}
+use Rattle.rules.specs.Sheet.{Entry, Model, known, Limits}
 use Rattle.rules.specs.Bound.{History}
-use Rattle.rules.specs.Merge.{mergeInto, lowered, merge}
+use Rattle.rules.specs.Merge.{Pair, lowered, merge}
 use Rattle.laws.specs.Tables.{KeysRise, FactsRise}
+use Rattle.laws.specs.MergeBy.{Orders, EachReorders, mergeIntoBy, mergeBy}
+use Rattle.laws.specs.MergeByLaws.{merge-has}
 use Rattle.soundness.specs.Tools.{known-yielded}
-use Rattle.soundness.specs.Join.{merge-linked}
-use Rattle.soundness.specs.Neat.{Neat, merge-small, merge-listed}
+use Rattle.soundness.specs.Join.{mergeBy-linked}
+use Rattle.soundness.specs.Neat.{Neat, mergeBy-small, mergeBy-listed}
 use Rattle.congruence.specs.Forced.{Survives, survivors-unique, survives-swap}
 use Rattle.congruence.specs.Images.{entryImage, factImage, Images}
 use Rattle.congruence.specs.Rising.{keys-unique, facts-unique}
-use Rattle.congruence.specs.Rounds.{merge-ends}
-use Rattle.congruence.specs.Survivors.{survivor, merge-history, merge-survives, merge-keys, merge-facts}
+use Rattle.congruence.specs.Rounds.{afterHistory, mergeBy-ends, mergeBy-after, merge-after}
+use Rattle.congruence.specs.Survivors.{way-survives, way-keys, way-facts, mergeBy-way, survivor}
 use Rattle.congruence.specs.Depths.{LeastDepths, depths-unique, neat-depths}
 
 -- ---- the law
@@ -62,42 +65,68 @@ merged-swap a b m n h g =
       depths = g .depths;
     }
 
--- ---- merge meets it
+-- ---- merging meets it, by any order
 
-merge-created : (a b : ℕ) (m : Model) (now : History) → merge a b m now .0 .created ≡ m .created
-unfolding mergeInto lowered
-merge-created a b m now = merge-ends (λ n h ps. n .created ≡ m .created) (λ n h p ps e c. c) (λ n h p ps c. c) (λ n h c. c) a b m now refl
+module _ (order : Orders Entry) (next : Orders Pair) (ro : EachReorders order) (rn : EachReorders next) where
+  mergeBy-created : (a b : ℕ) (m : Model) (now : History) → mergeBy order next a b m now .0 .created ≡ m .created
+  unfolding mergeIntoBy lowered
+  mergeBy-created a b m now = mergeBy-ends order next ro rn (λ n h ps. n .created ≡ m .created) (λ n h p ps e c. c) (λ k n h p ps c. c) (λ n h c. c) a b m now refl
+
+  module _ (lim : Limits) (d : Names) (m : Model) (g : Neat lim d m) (a b : ℕ) (ka : T (known m a)) (kb : T (known m b)) (now : History) where
+    mergeBy-neat : Neat lim d (mergeBy order next a b m now .0)
+    mergeBy-neat = record {
+      small = mergeBy-small order next ro lim a b m now (g .small);
+      listed = mergeBy-listed order next ro d a b m now (g .listed);
+      linked = mergeBy-linked order next ro rn (λ _. ⊥) a b m now (g .linked) (λ e n. absurd n) (known-yielded m a ka) (known-yielded m b kb) .0;
+    }
+
+    mergeBy-merged : Merged a b m (mergeBy order next a b m now .0) (mergeBy order next a b m (λ e. e) .1)
+    mergeBy-merged =
+        let n = mergeBy order next a b m now .0 in
+        let h = mergeBy order next a b m (λ e. e) .1 in
+        let w = mergeBy-way order next ro rn a b m (g .listed .keysRise) now in
+        record {
+          tables = record {
+            survives = way-survives a b m n h w;
+            keys = way-keys a b m n h w;
+            keysRise = mergeBy-neat .listed .keysRise;
+            facts = way-facts a b m n h w;
+            factsRise = mergeBy-neat .listed .factsRise;
+          };
+          created = mergeBy-created a b m now;
+          depths = neat-depths lim d n mergeBy-neat;
+        }
 
 module _ (lim : Limits) (d : Names) (m : Model) (g : Neat lim d m) (a b : ℕ) (ka : T (known m a)) (kb : T (known m b)) (now : History) where
   pub merge-neat : Neat lim d (merge a b m now .0)
-  merge-neat = record {
-    small = merge-small lim a b m now (g .small);
-    listed = merge-listed d a b m now (g .listed);
-    linked = merge-linked (λ _. ⊥) a b m now (g .linked) (λ e n. absurd n) (known-yielded m a ka) (known-yielded m b kb) .0;
-  }
+  merge-neat = merge-has (λ (r : History → Model × History). Neat lim d (r now .0)) a b m (λ order next ro rn. mergeBy-neat order next ro rn lim d m g a b ka kb now)
 
   pub merge-merged : Merged a b m (merge a b m now .0) (survivor a b m)
-  merge-merged = record {
-    tables = record {
-      survives = merge-survives a b m (g .listed .keysRise);
-      keys = merge-keys a b m (g .listed .keysRise) now;
-      keysRise = merge-neat .listed .keysRise;
-      facts = merge-facts a b m (g .listed .keysRise) now;
-      factsRise = merge-neat .listed .factsRise;
-    };
-    created = merge-created a b m now;
-    depths = neat-depths lim d (merge a b m now .0) merge-neat;
-  }
+  unfolding survivor
+  merge-merged = merge-has (λ (r : History → Model × History). Merged a b m (r now .0) (r (λ e. e) .1)) a b m
+      (λ order next ro rn. mergeBy-merged order next ro rn lim d m g a b ka kb now)
 
   -- Whatever meets it makes the same of the sheet.
   pub merged-is-merge : (n : Model) (h : ℕ → ℕ) → Merged a b m n h → (n ≡ merge a b m now .0) × (h ≡ survivor a b m)
   merged-is-merge n h u = merged-unique a b m n _ h _ u merge-merged
 
--- The order of the two does not matter.
-pub merge-order-free : (lim : Limits) (d : Names) (m : Model) → Neat lim d m → (a b : ℕ) → T (known m a) → T (known m b) → (now : History)
-    → merge a b m now ≡ merge b a m now
-merge-order-free lim d m g a b ka kb now =
-    let r = merged-is-merge lim d m g a b ka kb now _ _ (merged-swap b a m _ _ (merge-merged lim d m g b a kb ka now)) in
-    let q : (e : ℕ) → merge a b m now .1 e ≡ merge b a m now .1 e =
-    λ e. merge-history a b m now e ∙ ap (λ (h : ℕ → ℕ). h (now e)) (sym (r .1)) ∙ sym (merge-history b a m now e) in
-    λ i. (sym (r .0) i, λ e. q e i)
+-- ---- so no order matters
+
+module _ (lim : Limits) (d : Names) (m : Model) (g : Neat lim d m) (a b : ℕ) (ka : T (known m a)) (kb : T (known m b)) (now : History) where
+  -- What meets the law and carries a history along is `merge`.
+  is-merge : (r : History → Model × History) → r now ≡ afterHistory now (r (λ e. e)) → Merged a b m (r (λ e. e) .0) (r (λ e. e) .1) → r now ≡ merge a b m now
+  unfolding survivor
+  is-merge r c u =
+      let e = merged-is-merge lim d m g a b ka kb (λ e. e) _ _ u in
+      c ∙ (λ i. afterHistory now (e .0 i, e .1 i)) ∙ sym (merge-after now a b m)
+
+  -- In each round keys are filed, and pairs then wait, in any order.
+  pub merge-any-order : (order : Orders Entry) (next : Orders Pair) → EachReorders order → EachReorders next
+      → mergeBy order next a b m now ≡ merge a b m now
+  merge-any-order order next ro rn =
+      is-merge (mergeBy order next a b m) (mergeBy-after order next now a b m) (mergeBy-merged order next ro rn lim d m g a b ka kb (λ e. e))
+
+  -- The two elements may be swapped.
+  pub merge-order-free : merge a b m now ≡ merge b a m now
+  unfolding survivor
+  merge-order-free = sym (is-merge (merge b a m) (merge-after now b a m) (merged-swap b a m _ _ (merge-merged lim d m g b a kb ka (λ e. e))))

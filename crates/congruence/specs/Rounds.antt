@@ -1,20 +1,21 @@
--- The rounds of a merge: what holds at first and is kept by each round holds at the end, and then no pair is waiting. For each
--- round uses up a pair, or adds one for a key that falls away.
+-- The rounds of a merge, by any order: what holds at first and is kept by each round holds at the end, and then no pair is waiting.
+-- For each round uses up a pair, or adds one for a key that falls away.
 use mathlib.Core.Path.{_≡_, refl, sym, _∙_, subst}
 use Prim.Native.Nat.{ℕ, zero, suc, _+_, _≤_, min, max}
 use native.Mathlib.Omega.{arith}
 use mathlib.Core.Bool.{Bool, true, false}
 use mathlib.Core.Logic.{_⊎_, inl, inr, _≢_}
-use mathlib.Core.List.{List, [], _∷_, map}
-use lib.ListN.{length, length-map}
+use mathlib.Core.List.{List, [], _∷_}
+use lib.ListN.{length}
 use lib.Dec.{eqb→eq}
 use Rattle.base.specs.Branch.{if}
 use Rattle.base.specs.BranchLaws.{if-elim, neqb→ne}
-use Rattle.rules.specs.Sheet.{Model}
+use Rattle.rules.specs.Sheet.{Entry, Model}
 use Rattle.rules.specs.Bound.{History}
-use Rattle.rules.specs.Merge.{rename, renameEntry, Pair, renamePair, inOrder, mergeInto, mergeAll, lowered, merge}
-use Rattle.laws.specs.InOrder.{inOrder-length}
-use Rattle.congruence.specs.Filing.{refile-length}
+use Rattle.rules.specs.Merge.{rename, Pair, lowered, merge}
+use Rattle.laws.specs.MergeBy.{Orders, EachReorders, mergeIntoBy, mergeAllBy, mergeBy}
+use Rattle.laws.specs.MergeByLaws.{merge-has}
+use Rattle.soundness.specs.Join.{into-length}
 
 -- ---- renaming the larger of two elements to the smaller
 
@@ -38,38 +39,32 @@ one-renamed p = to (p .0) (inl refl) ∙ sym (to (p .1) (inr refl))
 -- ---- the rounds
 
 -- What it makes of a sheet, and of the pairs that wait behind.
-abbrev pub roundOf : Pair → Model → List Pair → Model × List Pair
-roundOf p m ps = mergeInto (min (p .0) (p .1)) (max (p .0) (p .1)) m ps
+abbrev pub roundOf : (List Entry → List Entry) → (List Pair → List Pair) → Pair → Model → List Pair → Model × List Pair
+roundOf order next p m ps = mergeIntoBy order next (min (p .0) (p .1)) (max (p .0) (p .1)) m ps
 
-round-length : (p : Pair) (m : Model) (ps : List Pair) → length (roundOf p m ps .0 .keys) + length (roundOf p m ps .1) ≡ length (m .keys) + length ps
-unfolding mergeInto
-round-length p m ps =
-    let s = min (p .0) (p .1) in
-    let l = max (p .0) (p .1) in
-    let r = refile-length (inOrder (map (renameEntry s l) (m .keys))) ([], map (renamePair s l) ps) in
-    let o = inOrder-length (map (renameEntry s l) (m .keys)) in
-    let u = length-map (m .keys) (renameEntry s l) in
-    let v = length-map ps (renamePair s l) in omega arith
-
-module _ {ℓ} (I : Model → History → List Pair → Type ℓ)
+module _ {ℓ} (order : Orders Entry) (next : Orders Pair) (ro : EachReorders order) (rn : EachReorders next)
+    (I : Model → History → List Pair → Type ℓ)
     (skip : (m : Model) (now : History) (p : Pair) (ps : List Pair) → p .0 ≡ p .1 → I m now (p ∷ ps) → I m now ps)
-    (round : (m : Model) (now : History) (p : Pair) (ps : List Pair) → I m now (p ∷ ps)
-    → I (roundOf p m ps .0) (λ e. renameOf p (now e)) (roundOf p m ps .1)) where
-  rounds-end : (k : ℕ) (m : Model) (now : History) (ps : List Pair) → length ps + length (m .keys) ≤ k → I m now ps → I (mergeAll k m now ps .0) (mergeAll k m now ps .1) []
-  unfolding mergeAll
+    (round : (n : ℕ) (m : Model) (now : History) (p : Pair) (ps : List Pair) → I m now (p ∷ ps)
+    → I (roundOf (order n) (next n) p m ps .0) (λ e. renameOf p (now e)) (roundOf (order n) (next n) p m ps .1)) where
+  rounds-end : (k : ℕ) (m : Model) (now : History) (ps : List Pair) → length ps + length (m .keys) ≤ k → I m now ps
+      → I (mergeAllBy order next k m now ps .0) (mergeAllBy order next k m now ps .1) []
+  unfolding mergeAllBy
   rounds-end zero m now [] f i = i
   rounds-end zero m now (p ∷ ps) f i = absurd (omega arith)
   rounds-end (suc k) m now [] f i = i
   rounds-end (suc k) m now (p ∷ ps) f i =
       if-elim (λ (r : Model × History). I (r .0) (r .1) []) _ _ _
       (λ t. rounds-end k m now ps (omega arith) (skip m now p ps (eqb→eq (p .0) (p .1) t) i))
-      (λ t. let n = round-length p m ps in rounds-end k _ _ _ (omega arith) (round m now p ps i))
+      (λ t.
+      let n = into-length (order k) (next k) (ro k) (rn k) (min (p .0) (p .1)) (max (p .0) (p .1)) m ps in
+      rounds-end k _ _ _ (omega arith) (round k m now p ps i))
 
   -- What does not speak of depths holds of the merged sheet too.
-  pub merge-ends : ((m : Model) (now : History) → I m now [] → I (lowered m) now [])
-      → (a b : ℕ) (m : Model) (now : History) → I m now ((a, b) ∷ []) → I (merge a b m now .0) (merge a b m now .1) []
-  unfolding merge
-  merge-ends low a b m now i = low _ _ (rounds-end (suc (length (m .keys))) m now ((a, b) ∷ []) (omega arith) i)
+  pub mergeBy-ends : ((m : Model) (now : History) → I m now [] → I (lowered m) now [])
+      → (a b : ℕ) (m : Model) (now : History) → I m now ((a, b) ∷ []) → I (mergeBy order next a b m now .0) (mergeBy order next a b m now .1) []
+  unfolding mergeBy
+  mergeBy-ends low a b m now i = low _ _ (rounds-end (suc (length (m .keys))) m now ((a, b) ∷ []) (omega arith) i)
 
 -- ---- the history does not bear on the sheet, and is carried along
 
@@ -82,14 +77,19 @@ through-if f false x y u v p q = q
 abbrev pub afterHistory : History → Model × History → Model × History
 afterHistory now r = (r .0, λ e. r .1 (now e))
 
-rounds-after : (now : History) (k : ℕ) (m : Model) (g : History) (ps : List Pair) → mergeAll k m (λ e. g (now e)) ps ≡ afterHistory now (mergeAll k m g ps)
-unfolding mergeAll
-rounds-after now zero m g ps = refl
-rounds-after now (suc k) m g [] = refl
-rounds-after now (suc k) m g (p ∷ ps) =
-    through-if (afterHistory now) _ _ _ _ _ (rounds-after now k m g ps)
-    (rounds-after now k (roundOf p m ps .0) (λ e. renameOf p (g e)) (roundOf p m ps .1))
+module _ (order : Orders Entry) (next : Orders Pair) (now : History) where
+  rounds-after : (k : ℕ) (m : Model) (g : History) (ps : List Pair) → mergeAllBy order next k m (λ e. g (now e)) ps ≡ afterHistory now (mergeAllBy order next k m g ps)
+  unfolding mergeAllBy
+  rounds-after zero m g ps = refl
+  rounds-after (suc k) m g [] = refl
+  rounds-after (suc k) m g (p ∷ ps) =
+      let r = roundOf (order k) (next k) p m ps in
+      through-if (afterHistory now) _ _ _ _ _ (rounds-after k m g ps) (rounds-after k (r .0) (λ e. renameOf p (g e)) (r .1))
+
+  pub mergeBy-after : (a b : ℕ) (m : Model) → mergeBy order next a b m now ≡ afterHistory now (mergeBy order next a b m (λ e. e))
+  unfolding mergeBy
+  mergeBy-after a b m = λ i. let r = rounds-after (suc (length (m .keys))) m (λ e. e) ((a, b) ∷ []) i in (lowered (r .0), r .1)
 
 pub merge-after : (now : History) (a b : ℕ) (m : Model) → merge a b m now ≡ afterHistory now (merge a b m (λ e. e))
-unfolding merge
-merge-after now a b m = λ i. let r = rounds-after now (suc (length (m .keys))) m (λ e. e) ((a, b) ∷ []) i in (lowered (r .0), r .1)
+merge-after now a b m =
+    merge-has (λ (r : History → Model × History). r now ≡ afterHistory now (r (λ e. e))) a b m (λ order next ro rn. mergeBy-after order next now a b m)

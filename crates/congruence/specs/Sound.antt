@@ -1,19 +1,21 @@
--- The laws of merging for a sheet that passes the test of soundness (01, "The pool"), and any two of its elements.
+-- The laws of merging for a sheet that passes the test of soundness (01, "The pool"), and any two of its elements: what becomes one,
+-- that the merged sheet is sound, which it is, and that it is the same whatever the order of keys, of pairs and of the two.
 use mathlib.Core.Path.{_≡_}
 use Prim.Native.Nat.{ℕ}
 use mathlib.Core.Logic.{_↔_}
 use lib.Dec.{T}
 use Rattle.rules.specs.Book.{Names}
-use Rattle.rules.specs.Sheet.{Model, known, Limits}
+use Rattle.rules.specs.Sheet.{Entry, Model, known, Limits}
 use Rattle.rules.specs.Bound.{History}
-use Rattle.rules.specs.Merge.{merge}
+use Rattle.rules.specs.Merge.{Pair, merge}
 use Rattle.rules.specs.Sound.{soundModel}
 use Rattle.laws.specs.Tables.{KeysRise}
+use Rattle.laws.specs.MergeBy.{Orders, EachReorders, mergeBy}
 use Rattle.soundness.specs.Model.{sound-neat, neat-sound}
 use Rattle.congruence.specs.Forced.{Forced}
 use Rattle.congruence.specs.Images.{entryImage, factImage, Images}
 use Rattle.congruence.specs.Survivors.{survivor, merge-is-congruence, Smallest, survivor-smallest, merge-keys, merge-facts}
-use Rattle.congruence.specs.Merged.{Merged, merge-neat, merge-merged, merged-is-merge, merge-order-free}
+use Rattle.congruence.specs.Merged.{Merged, merge-neat, merge-merged, merged-is-merge, merge-any-order, merge-order-free}
 
 module _ (lim : Limits) (d : Names) (m : Model) (t : T (soundModel lim d m)) (a b : ℕ) where
   rise : KeysRise (m .keys)
@@ -40,6 +42,11 @@ module _ (lim : Limits) (d : Names) (m : Model) (t : T (soundModel lim d m)) (a 
 
     pub sound-merged-is-merge : (n : Model) (h : ℕ → ℕ) → Merged a b m n h → (n ≡ merge a b m now .0) × (h ≡ survivor a b m)
     sound-merged-is-merge = merged-is-merge lim d m (sound-neat lim d m t) a b ka kb now
+
+    -- Whatever the order in which each round files the keys and the pairs then wait. The order of the Rust is one of them.
+    pub sound-merge-any-order : (order : Orders Entry) (next : Orders Pair) → EachReorders order → EachReorders next
+        → mergeBy order next a b m now ≡ merge a b m now
+    sound-merge-any-order = merge-any-order lim d m (sound-neat lim d m t) a b ka kb now
 
     pub sound-merge-order-free : merge a b m now ≡ merge b a m now
     sound-merge-order-free = merge-order-free lim d m (sound-neat lim d m t) a b ka kb now

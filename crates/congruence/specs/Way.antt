@@ -1,4 +1,4 @@
--- What each round of a merge keeps: each key is the image of one that was there at first; each that was there has its image, up to
+-- What each round of a merge keeps, by any order: each key is the image of one that was there at first; each that was there has its image, up to
 -- one colour for the two elements of each waiting pair; and whatever is a congruence relates each element to its image, and the
 -- elements of each waiting pair.
 use mathlib.Core.Path.{_≡_, sym, ap, _∙_, subst₂}
@@ -12,9 +12,10 @@ use Rattle.base.specs.Lists.{All, Some}
 use Rattle.base.specs.ListLaws.{all-all, all-map, all-unmap, all-in, some-some, some-map, In}
 use Rattle.rules.specs.Sheet.{Key, Fact, Entry, Model}
 use Rattle.rules.specs.Bound.{History}
-use Rattle.rules.specs.Merge.{rename, renameEntry, renameFact, Pair, renamePair, inOrder, refile, refact, mergeInto}
+use Rattle.rules.specs.Merge.{rename, renameEntry, renameFact, Pair, renamePair, refile, refact}
 use Rattle.laws.specs.Tables.{KeysRise, refile-all, refile-rises, refact-all}
-use Rattle.laws.specs.InOrder.{inOrder-all, inOrder-has}
+use Rattle.laws.specs.MergeBy.{Reorders, mergeIntoBy}
+use Rattle.laws.specs.MergeByLaws.{reorders-back}
 use Rattle.soundness.specs.Tools.{some-meets}
 use Rattle.congruence.specs.Forced.{Congruence, args-related}
 use Rattle.congruence.specs.Images.{keyImage, entryImage, factImage, key-twice, entry-twice, fact-twice, entry-self, fact-self, From, from-on, self-from, self-there}
@@ -77,16 +78,17 @@ module _ (a b : ℕ) (ks : List Entry) (E : ℕ → ℕ → Type 0) (c : Congrue
       (args-related a b ks E c h r (x .0 .args) (y .0 .args) (ap (λ (z : Key). z .args) e)) in
       subst₂ E (ap (λ (z : Entry). z .1) p) (ap (λ (z : Entry). z .1) q) (both-sides h r w)) ks t (all-in ks)) ks s (all-in ks)
 
-module _ (a b : ℕ) (m n : Model) (h : History) (p : Pair) (ps : List Pair) (w : WayTo a b m n h (p ∷ ps)) where
-  pub way-round : WayTo a b m (roundOf p n ps .0) (λ e. renameOf p (h e)) (roundOf p n ps .1)
-  unfolding mergeInto renameEntry renameFact
+module _ (order : List Entry → List Entry) (next : List Pair → List Pair) (ro : Reorders order) (rn : Reorders next)
+    (a b : ℕ) (m n : Model) (h : History) (p : Pair) (ps : List Pair) (w : WayTo a b m n h (p ∷ ps)) where
+  pub way-round : WayTo a b m (roundOf order next p n ps .0) (λ e. renameOf p (h e)) (roundOf order next p n ps .1)
+  unfolding mergeIntoBy renameEntry renameFact
   way-round = record {
     keysRise = refile-rises xs ([], qs) tt;
     keysFrom = refile-all (From (entryImage hr) (m .keys)) xs ([], qs) renamed tt;
     keysThere = λ c o. all-all (λ (x : Entry). Some (There (λ e. c (r e)) h x) (n .keys)) (λ (x : Entry). Some (There c hr x) (refile xs ([], qs) .0))
         (λ x u. refile-has (There c hr x) xs ([], qs)
-        (all-all (OneColour c) (λ (q : Pair). (k : Key) → There c hr x (k, q .0) → There c hr x (k, q .1)) (λ q e k t. (t .0, sym e ∙ t .1)) (refile xs ([], qs) .1) o)
-        (inl (inOrder-has (There c hr x) (map (renameEntry s l) (n .keys))
+        (all-all (OneColour c) (λ (q : Pair). (k : Key) → There c hr x (k, q .0) → There c hr x (k, q .1)) (λ q e k t. (t .0, sym e ∙ t .1)) (refile xs ([], qs) .1) (kept c o))
+        (inl (ro .has (There c hr x) (map (renameEntry s l) (n .keys))
         (some-map (There (λ e. c (r e)) h x) (There c hr x) (renameEntry s l) (λ y t. (ap (keyImage r) (t .0) ∙ key-twice r h (x .0), t .1)) (n .keys) u))))
         (m .keys) (w .keysThere (λ e. c (r e)) (colours c o));
     factsFrom = refact-all (From (factImage hr) (m .facts)) fs []
@@ -102,8 +104,9 @@ module _ (a b : ℕ) (m n : Model) (h : History) (p : Pair) (ps : List Pair) (w 
         let step = renamed-related a b (m .keys) E c p (old .1 .0) in
         let to : (e : ℕ) → E e (hr e) = λ e. c .chain e (h e) (hr e) (old .0 e) (step (h e)) in (
           to,
-          refile-makes (From (entryImage hr) (m .keys)) (λ (q : Pair). E (q .0) (q .1)) (values-related a b (m .keys) E c hr to) xs ([], qs) renamed tt
-              (all-map (λ (q : Pair). E (q .0) (q .1)) (λ (q : Pair). E (q .0) (q .1)) (renamePair s l) (λ q e. both-sides a b (m .keys) E c r step e) ps (old .1 .1)),
+          rn .each (λ (q : Pair). E (q .0) (q .1)) _
+              (refile-makes (From (entryImage hr) (m .keys)) (λ (q : Pair). E (q .0) (q .1)) (values-related a b (m .keys) E c hr to) xs ([], qs) renamed tt
+              (all-map (λ (q : Pair). E (q .0) (q .1)) (λ (q : Pair). E (q .0) (q .1)) (renamePair s l) (λ q e. both-sides a b (m .keys) E c r step e) ps (old .1 .1))),
         );
   }
     where
@@ -120,7 +123,7 @@ module _ (a b : ℕ) (m n : Model) (h : History) (p : Pair) (ps : List Pair) (w 
       hr e = r (h e)
 
       xs : List Entry
-      xs = inOrder (map (renameEntry s l) (n .keys))
+      xs = order (map (renameEntry s l) (n .keys))
 
       fs : List Fact
       fs = map (renameFact s l) (n .facts)
@@ -129,12 +132,15 @@ module _ (a b : ℕ) (m n : Model) (h : History) (p : Pair) (ps : List Pair) (w 
       qs = map (renamePair s l) ps
 
       renamed : All (From (entryImage hr) (m .keys)) xs
-      renamed = inOrder-all (From (entryImage hr) (m .keys)) (map (renameEntry s l) (n .keys))
+      renamed = ro .each (From (entryImage hr) (m .keys)) (map (renameEntry s l) (n .keys))
           (all-map (From (entryImage h) (m .keys)) (From (entryImage hr) (m .keys)) (renameEntry s l)
           (from-on (entryImage h) (entryImage r) (entryImage hr) (entry-twice r h) (m .keys)) (n .keys) (w .keysFrom))
 
-      colours : (c : ℕ → ℕ) → All (OneColour c) (refile xs ([], qs) .1) → All (OneColour (λ e. c (r e))) (p ∷ ps)
-      colours c o = (ap c (one-renamed p), all-unmap (OneColour c) (renamePair s l) ps (refile-kept (OneColour c) xs ([], qs) o))
+      kept : (c : ℕ → ℕ) → All (OneColour c) (next (refile xs ([], qs) .1)) → All (OneColour c) (refile xs ([], qs) .1)
+      kept c o = reorders-back next rn (OneColour c) (refile xs ([], qs) .1) o
+
+      colours : (c : ℕ → ℕ) → All (OneColour c) (next (refile xs ([], qs) .1)) → All (OneColour (λ e. c (r e))) (p ∷ ps)
+      colours c o = (ap c (one-renamed p), all-unmap (OneColour c) (renamePair s l) ps (refile-kept (OneColour c) xs ([], qs) (kept c o)))
 
 -- At first each entry is its own image.
 pub way-start : (a b : ℕ) (m : Model) → KeysRise (m .keys) → WayTo a b m m (λ e. e) ((a, b) ∷ [])

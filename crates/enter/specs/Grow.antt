@@ -24,16 +24,6 @@ pub record Sturdy (lim : Limits) (w : List ℕ) : Type 0 where
   pub rising : Rising (viewOf lim w .keys)
   pub held : Rising (viewOf lim w .facts)
 
--- ---- an entry of a region
-
-pub part-at : (a n i : ℕ) (s : List ℕ) → i < n → getD s (a + i) 0 ≡ getD (part a n s) i 0
-unfolding part
-part-at a n i s h = sym (getD-take n (drop a s) i 0 h ∙ getD-drop a s i 0)
-
-pub part-past : (a n i : ℕ) (s : List ℕ) → n ≤ i → 0 ≡ getD (part a n s) i 0
-unfolding part
-part-past a n i s h = sym (List·getD-eq-default (take n (drop a s)) 0 (simp length-take (omega arith)))
-
 -- ---- one entry set
 
 module _ (s : List ℕ) (j v : ℕ) (h : j < length s) where

@@ -5,7 +5,8 @@ use native.Mathlib.Omega.{arith}
 use native.Mathlib.Numerals.{add-one}
 use mathlib.Core.List.{List, [], _∷_, _++_, map}
 use lib.ListN.{length, getD, take, drop, set, length-take, length-map, drop-of-length-le}
-use lib.Seq.{drop-cons, getD-take, take-at, length-take-le, drop-drop, take-nil}
+use lib.Seq.{drop-cons, getD-take, take-at, length-take-le, drop-drop}
+use Rattle.images.specs.Kept.{drop-take}
 
 unfoldable pub mapFront : (ℕ → ℕ) → ℕ → List ℕ → List ℕ
 mapFront f i t = map f (take i t) ++ drop i t
@@ -40,12 +41,6 @@ front-cons t n i h q = rw (add-one, drop-cons (take n t) i 0 (simp length-take (
 
 pub front-end : (t : List ℕ) (n : ℕ) → drop n (take n t) ≡ []
 front-end t n = drop-of-length-le (take n t) {i = n} (simp length-take (omega arith))
-
-drop-take : (a b : ℕ) (t : List ℕ) → drop a (take b t) ≡ take (b - a) (drop a t)
-drop-take zero b t = let e : b - 0 ≡ b = omega arith in ap (λ m. take m t) (sym e)
-drop-take (suc a) zero t = let e : 0 - suc a ≡ 0 = omega arith in ap (λ m. take m (drop (suc a) t)) (sym e)
-drop-take (suc a) (suc b) [] = sym (take-nil (suc b - suc a))
-drop-take (suc a) (suc b) (x ∷ t) = let e : suc b - suc a ≡ b - a = omega arith in drop-take a b t ∙ ap (λ m. take m (drop a t)) (sym e)
 
 -- What two lists share from m on, they share in every part behind m.
 pub behind-part : (m a b : ℕ) (t t′ : List ℕ) → drop m t′ ≡ drop m t → m ≤ a → drop a (take b t′) ≡ drop a (take b t)

@@ -43,7 +43,8 @@ pub part-out : (a n : ℕ) (w : List ℕ) (v : ℕ) → n ≤ v → 0 ≡ getD (
 unfolding part
 part-out a n w v h = sym (List·getD-eq-default (take n (drop a w)) 0 {n = v} (simp length-take (omega arith)))
 
-drop-take : (b a : ℕ) (t : List ℕ) → drop b (take a t) ≡ take (a - b) (drop b t)
+-- What a front has from a place on.
+pub drop-take : (b a : ℕ) (t : List ℕ) → drop b (take a t) ≡ take (a - b) (drop b t)
 drop-take zero a t = let e : a - 0 ≡ a = omega arith in ap (λ m. take m t) (sym e)
 drop-take (suc b) zero t = let e : 0 - suc b ≡ 0 = omega arith in ap (λ m. take m (drop (suc b) t)) (sym e)
 drop-take (suc b) (suc a) [] = sym (take-nil (suc a - suc b))

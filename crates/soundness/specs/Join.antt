@@ -1,5 +1,5 @@
 -- Merging: as many rounds as there are pairs and keys are enough, and afterwards every element that is used is yielded by some
--- key, and its depth is the least over its keys.
+-- key, and its depth is the least over its keys. It is said of merging by any order, of which `merge` is one.
 -- On the way a used element may be yielded by no key, until a pending pair is merged. So the loop's invariant speaks of every
 -- colouring that gives one colour to the two elements of each pending pair: some key yields the colour of a used element and gives
 -- no more than its depth. When no pair is left, the colouring is the identity.
@@ -19,9 +19,10 @@ use Rattle.base.specs.BranchLaws.{if-elim, caseO-elim, neqb→ne}
 use Rattle.base.specs.ListLaws.{map-map, all-all, all-map, all-unmap, some-some, some-map}
 use Rattle.rules.specs.Sheet.{Key, Entry, Model, find, insertKey}
 use Rattle.rules.specs.Bound.{depthOver, History}
-use Rattle.rules.specs.Merge.{rename, renameEntry, renameFact, Pair, renamePair, inOrder, Filed, file, refile, mergeDepths, mergeInto, mergeAll, sum, lower, lowered, merge}
+use Rattle.rules.specs.Merge.{rename, renameEntry, renameFact, Pair, renamePair, Filed, file, refile, mergeDepths, sum, lower, lowered, merge}
 use Rattle.laws.specs.Tables.{find-all, insertKey-all, refile-all, refact-all}
-use Rattle.laws.specs.InOrder.{inOrder-all, inOrder-has, inOrder-length}
+use Rattle.laws.specs.MergeBy.{Reorders, Orders, EachReorders, mergeIntoBy, mergeAllBy, mergeBy}
+use Rattle.laws.specs.MergeByLaws.{reorders-back, merge-has}
 use Rattle.soundness.specs.Tools.{insertKey-new, insertKey-old, insertKey-length, KeyOver, FactOver, Yields, keys-over, facts-over, Yielded, all-yielded, yielded-has}
 use Rattle.soundness.specs.Settle.{depthIn, given, given-below, ReachedBy, AtRest, Reached, lower-rests, lower-reached, lower-below, lower-length}
 
@@ -183,19 +184,20 @@ Image s l P e = (x : ℕ) × P x × (rename s l x ≡ e)
 image-all : (s l : ℕ) (P : ℕ → Type 0) (xs : List ℕ) → All P xs → All (Image s l P) (map (rename s l) xs)
 image-all s l P xs a = all-map P (Image s l P) (rename s l) (λ x p. (x, p, refl)) xs a
 
-module _ (B : ℕ → Type 0) (s l : ℕ) (s≢l : s ≢ l) (m : Model) (now : History) (P : ℕ → Type 0) (ps : P s) (pl : P l) (o : Live B m now P) (qs : List Pair) where
-  renamed-values : All (Yields (Image s l P)) (inOrder (map (renameEntry s l) (m .keys)))
+module _ (order : List Entry → List Entry) (next : List Pair → List Pair) (ro : Reorders order) (rn : Reorders next)
+    (B : ℕ → Type 0) (s l : ℕ) (s≢l : s ≢ l) (m : Model) (now : History) (P : ℕ → Type 0) (ps : P s) (pl : P l) (o : Live B m now P) (qs : List Pair) where
+  renamed-values : All (Yields (Image s l P)) (order (map (renameEntry s l) (m .keys)))
   unfolding renameEntry
-  renamed-values = inOrder-all (Yields (Image s l P)) (map (renameEntry s l) (m .keys))
+  renamed-values = ro .each (Yields (Image s l P)) (map (renameEntry s l) (m .keys))
       (all-map (Yields P) (Yields (Image s l P)) (renameEntry s l) (λ x a. (x .1, a, refl)) (m .keys) (o .values))
 
-  into-live : Live B (mergeInto s l m qs .0) (λ e. rename s l (now e)) (Image s l P)
-  unfolding mergeInto renameEntry renameFact
+  into-live : Live B (mergeIntoBy order next s l m qs .0) (λ e. rename s l (now e)) (Image s l P)
+  unfolding mergeIntoBy renameEntry renameFact
   into-live = record {
-    keyArgs = refile-all (KeyOver (Image s l P)) (inOrder (map (renameEntry s l) (m .keys))) ([], map (renamePair s l) qs)
-        (inOrder-all (KeyOver (Image s l P)) (map (renameEntry s l) (m .keys))
+    keyArgs = refile-all (KeyOver (Image s l P)) (order (map (renameEntry s l) (m .keys))) ([], map (renamePair s l) qs)
+        (ro .each (KeyOver (Image s l P)) (map (renameEntry s l) (m .keys))
         (all-map (KeyOver P) (KeyOver (Image s l P)) (renameEntry s l) (λ x a. image-all s l P (x .0 .args) a) (m .keys) (o .keyArgs))) tt;
-    values = refile-all (Yields (Image s l P)) (inOrder (map (renameEntry s l) (m .keys))) ([], map (renamePair s l) qs) renamed-values tt;
+    values = refile-all (Yields (Image s l P)) (order (map (renameEntry s l) (m .keys))) ([], map (renamePair s l) qs) renamed-values tt;
     factArgs = refact-all (FactOver (Image s l P)) (map (renameFact s l) (m .facts)) []
         (all-map (FactOver P) (FactOver (Image s l P)) (renameFact s l) (λ f a. image-all s l P (f .args) a) (m .facts) (o .factArgs)) tt;
     nows = λ e b. (now e, o .nows e b, refl);
@@ -216,16 +218,18 @@ module _ (B : ℕ → Type 0) (s l : ℕ) (s≢l : s ≢ l) (m : Model) (now : H
       left e n (no p) (no q) =
           depth-other s l (m .depths) s≢l (range s ps) e q p ∙ o .gone e (λ u. n (e, u, elim (rename-is s l e) [ inl r ↦ absurd (p (r .0)) | inr r ↦ r .1 ]))
 
-  into-reaches : Reaches m ((s, l) ∷ qs) P → Reaches (mergeInto s l m qs .0) (mergeInto s l m qs .1) (Image s l P)
-  unfolding mergeInto renameEntry
+  into-reaches : Reaches m ((s, l) ∷ qs) P → Reaches (mergeIntoBy order next s l m qs .0) (mergeIntoBy order next s l m qs .1) (Image s l P)
+  unfolding mergeIntoBy renameEntry
   into-reaches r h a e i =
       let ds = m .depths in
       let new = mergeDepths s l ds in
       let sr : s < length ds = subst (λ n. s < n) (sym (o .long)) (o .low s ps) in
       let b = depth-from s l ds s≢l sr P ps pl (i .0) (i .1) in
       let R : Key → Type 0 = λ k. given new (k .args) ≤ depthIn new e in
-      refile-some h (h e) R (inOrder (map (renameEntry s l) (m .keys))) ([], map (renamePair s l) qs) a
-      (inl (inOrder-has (Coloured h (h e) R) (map (renameEntry s l) (m .keys))
+      let xs = order (map (renameEntry s l) (m .keys)) in
+      let c = reorders-back next rn (λ (p : Pair). h (p .0) ≡ h (p .1)) (refile xs ([], map (renamePair s l) qs) .1) a in
+      refile-some h (h e) R xs ([], map (renamePair s l) qs) c
+      (inl (ro .has (Coloured h (h e) R) (map (renameEntry s l) (m .keys))
       (some-map (λ (x : Entry). (h (rename s l (x .1)) ≡ h (rename s l (b .0))) × (given ds (x .0 .args) ≤ depthIn ds (b .0))) (Coloured h (h e) R) (renameEntry s l)
       (λ x q. (
         q .0 ∙ ap h (b .2 ∙ i .2),
@@ -233,22 +237,25 @@ module _ (B : ℕ → Type 0) (s l : ℕ) (s≢l : s ≢ l) (m : Model) (now : H
       )) (m .keys)
       (r (λ z. h (rename s l z)) (
         ap h (rename-survivor s l ∙ sym (rename-goner s l)),
-        all-unmap (λ (p : Pair). h (p .0) ≡ h (p .1)) (renamePair s l) qs (refile-respects h (inOrder (map (renameEntry s l) (m .keys))) ([], map (renamePair s l) qs) a),
+        all-unmap (λ (p : Pair). h (p .0) ≡ h (p .1)) (renamePair s l) qs (refile-respects h xs ([], map (renamePair s l) qs) c),
       )
       (b .0) (b .1)))))
 
-  into-pairs : All (λ (p : Pair). P (p .0) × P (p .1)) qs → All (λ (p : Pair). Image s l P (p .0) × Image s l P (p .1)) (mergeInto s l m qs .1)
-  unfolding mergeInto
+  into-pairs : All (λ (p : Pair). P (p .0) × P (p .1)) qs → All (λ (p : Pair). Image s l P (p .0) × Image s l P (p .1)) (mergeIntoBy order next s l m qs .1)
+  unfolding mergeIntoBy
   into-pairs a =
-      refile-pairs (Image s l P) (inOrder (map (renameEntry s l) (m .keys))) ([], map (renamePair s l) qs) renamed-values tt
-      (all-map (λ (p : Pair). P (p .0) × P (p .1)) (λ (p : Pair). Image s l P (p .0) × Image s l P (p .1)) (renamePair s l) (λ p q. ((p .0, q .0, refl), (p .1, q .1, refl))) qs a)
+      rn .each (λ (p : Pair). Image s l P (p .0) × Image s l P (p .1)) _
+      (refile-pairs (Image s l P) (order (map (renameEntry s l) (m .keys))) ([], map (renamePair s l) qs) renamed-values tt
+      (all-map (λ (p : Pair). P (p .0) × P (p .1)) (λ (p : Pair). Image s l P (p .0) × Image s l P (p .1)) (renamePair s l) (λ p q. ((p .0, q .0, refl), (p .1, q .1, refl))) qs a))
 
 -- A key that falls away has become a pair.
-into-length : (s l : ℕ) (m : Model) (qs : List Pair) → length (mergeInto s l m qs .0 .keys) + length (mergeInto s l m qs .1) ≡ length (m .keys) + length qs
-unfolding mergeInto
-into-length s l m qs =
-    let r = refile-length (inOrder (map (renameEntry s l) (m .keys))) ([], map (renamePair s l) qs) in
-    let o = inOrder-length (map (renameEntry s l) (m .keys)) in
+pub into-length : (order : List Entry → List Entry) (next : List Pair → List Pair) → Reorders order → Reorders next → (s l : ℕ) (m : Model) (qs : List Pair)
+    → length (mergeIntoBy order next s l m qs .0 .keys) + length (mergeIntoBy order next s l m qs .1) ≡ length (m .keys) + length qs
+unfolding mergeIntoBy
+into-length order next ro rn s l m qs =
+    let r = refile-length (order (map (renameEntry s l) (m .keys))) ([], map (renamePair s l) qs) in
+    let o = ro .many (map (renameEntry s l) (m .keys)) in
+    let n = rn .many (refile (order (map (renameEntry s l) (m .keys))) ([], map (renamePair s l) qs) .1) in
     let p = length-map (m .keys) (renameEntry s l) in
     let q = length-map qs (renamePair s l) in omega arith
 
@@ -290,26 +297,28 @@ sorted-back h a b e = elim (decLe a b) [
   | no d ↦ (let u : b ≡ min a b = omega arith in let v : a ≡ max a b = omega arith in ap h v ∙ sym e ∙ ap h (sym u))
 ]
 
-mergeAll-whole : (B : ℕ → Type 0) (k : ℕ) (m : Model) (now : History) (qs : List Pair) (P : ℕ → Type 0) → length qs + length (m .keys) ≤ k
-    → Live B m now P → All (λ (p : Pair). P (p .0) × P (p .1)) qs → Reaches m qs P → Whole B (mergeAll k m now qs)
-unfolding mergeAll
-mergeAll-whole B zero m now [] P f o a r = done-whole B m now P o r
-mergeAll-whole B zero m now (q ∷ qs) P f o a r = absurd (omega arith)
-mergeAll-whole B (suc k) m now [] P f o a r = done-whole B m now P o r
-mergeAll-whole B (suc k) m now (q ∷ qs) P f o a r =
-    if-elim (Whole B) _ _ _
-    (λ t. let e = eqb→eq (q .0) (q .1) t in mergeAll-whole B k m now qs P (omega arith) o (a .1) (λ h c. r h (ap h e, c)))
-    (λ t.
-    let s : ℕ = min (q .0) (q .1) in
-    let l : ℕ = max (q .0) (q .1) in
-    let d = neqb→ne (q .0) (q .1) t in
-    let s≢l : s ≢ l = omega arith in
-    let p = sorted-both P (q .0) (q .1) (a .0 .0) (a .0 .1) in
-    let n = into-length s l m qs in
-    mergeAll-whole B k (mergeInto s l m qs .0) (λ e. rename s l (now e)) (mergeInto s l m qs .1) (Image s l P) (omega arith)
-    (into-live B s l s≢l m now P (p .0) (p .1) o qs)
-    (into-pairs B s l s≢l m now P (p .0) (p .1) o qs (a .1))
-    (into-reaches B s l s≢l m now P (p .0) (p .1) o qs (λ h c. r h (sorted-back h (q .0) (q .1) (c .0), c .1))))
+module _ (order : Orders Entry) (next : Orders Pair) (ro : EachReorders order) (rn : EachReorders next) where
+  mergeAllBy-whole : (B : ℕ → Type 0) (k : ℕ) (m : Model) (now : History) (qs : List Pair) (P : ℕ → Type 0) → length qs + length (m .keys) ≤ k
+      → Live B m now P → All (λ (p : Pair). P (p .0) × P (p .1)) qs → Reaches m qs P → Whole B (mergeAllBy order next k m now qs)
+  unfolding mergeAllBy
+  mergeAllBy-whole B zero m now [] P f o a r = done-whole B m now P o r
+  mergeAllBy-whole B zero m now (q ∷ qs) P f o a r = absurd (omega arith)
+  mergeAllBy-whole B (suc k) m now [] P f o a r = done-whole B m now P o r
+  mergeAllBy-whole B (suc k) m now (q ∷ qs) P f o a r =
+      if-elim (Whole B) _ _ _
+      (λ t. let e = eqb→eq (q .0) (q .1) t in mergeAllBy-whole B k m now qs P (omega arith) o (a .1) (λ h c. r h (ap h e, c)))
+      (λ t.
+      let s : ℕ = min (q .0) (q .1) in
+      let l : ℕ = max (q .0) (q .1) in
+      let d = neqb→ne (q .0) (q .1) t in
+      let s≢l : s ≢ l = omega arith in
+      let p = sorted-both P (q .0) (q .1) (a .0 .0) (a .0 .1) in
+      let n = into-length (order k) (next k) (ro k) (rn k) s l m qs in
+      let i = mergeIntoBy (order k) (next k) s l m qs in
+      mergeAllBy-whole B k (i .0) (λ e. rename s l (now e)) (i .1) (Image s l P) (omega arith)
+      (into-live (order k) (next k) (ro k) (rn k) B s l s≢l m now P (p .0) (p .1) o qs)
+      (into-pairs (order k) (next k) (ro k) (rn k) B s l s≢l m now P (p .0) (p .1) o qs (a .1))
+      (into-reaches (order k) (next k) (ro k) (rn k) B s l s≢l m now P (p .0) (p .1) o qs (λ h c. r h (sorted-back h (q .0) (q .1) (c .0), c .1))))
 
 -- ---- a merge of two elements of a linked sheet
 
@@ -334,11 +343,18 @@ lowered-linked B m now w =
       o .nows,
     )
 
-pub merge-linked : (B : ℕ → Type 0) (a b : ℕ) (m : Model) (now : History) → Linked m → Follows B m now → Yielded (m .keys) a → Yielded (m .keys) b
-    → Linked (merge a b m now .0) × Follows B (merge a b m now .0) (merge a b m now .1)
-unfolding merge
-merge-linked B a b m now g f x y =
-    lowered-linked B _ _ (mergeAll-whole B (suc (length (m .keys))) m now ((a, b) ∷ []) (Yielded (m .keys)) (omega arith)
+pub mergeBy-linked : (order : Orders Entry) (next : Orders Pair) → EachReorders order → EachReorders next
+    → (B : ℕ → Type 0) (a b : ℕ) (m : Model) (now : History) → Linked m → Follows B m now → Yielded (m .keys) a → Yielded (m .keys) b
+    → Linked (mergeBy order next a b m now .0) × Follows B (mergeBy order next a b m now .0) (mergeBy order next a b m now .1)
+unfolding mergeBy
+mergeBy-linked order next ro rn B a b m now g f x y =
+    lowered-linked B _ _ (mergeAllBy-whole order next ro rn B (suc (length (m .keys))) m now ((a, b) ∷ []) (Yielded (m .keys)) (omega arith)
     (record { keyArgs = g .keyArgs; values = all-yielded (m .keys); factArgs = g .factArgs; nows = f; low = yielded-low m g; long = g .long; gone = g .gone })
     ((x, y), tt)
     (λ h c e p. some-some _ (λ (z : Entry). (h (z .1) ≡ h e) × (given (m .depths) (z .0 .args) ≤ depthIn (m .depths) e)) (λ z q. (ap h (q .0), q .1)) (m .keys) (g .reached e p)))
+
+pub merge-linked : (B : ℕ → Type 0) (a b : ℕ) (m : Model) (now : History) → Linked m → Follows B m now → Yielded (m .keys) a → Yielded (m .keys) b
+    → Linked (merge a b m now .0) × Follows B (merge a b m now .0) (merge a b m now .1)
+merge-linked B a b m now g f x y =
+    merge-has (λ (r : History → Model × History). Linked (r now .0) × Follows B (r now .0) (r now .1)) a b m
+    (λ order next ro rn. mergeBy-linked order next ro rn B a b m now g f x y)

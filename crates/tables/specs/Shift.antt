@@ -7,17 +7,12 @@ use native.Mathlib.Omega.{arith}
 use mathlib.Core.List.{List, _∷_, _++_, append-assoc}
 use lib.ListN.{length, getD, take, drop, set, length-take, take-append-drop, List·getD-append}
 use lib.Seq.{take-suc, drop-cons, set-at, append-snoc, getD-take, length-take-le, take-take, take-add, drop-at}
+use Rattle.images.specs.Kept.{drop-take}
 use Rattle.tables.specs.Table.{insertAt}
 
 -- Entries i to n - 1 stand one place higher, entry n is gone, and entry i stands twice.
 unfoldable pub opened : List ℕ → ℕ → ℕ → List ℕ
 opened t i n = take (suc i) t ++ (take (n - i) (drop i t) ++ drop (suc n) t)
-
--- What a prefix has from a place on.
-pub drop-take : (t : List ℕ) (r n : ℕ) → r ≤ n → n ≤ length t → drop r (take n t) ≡ take (n - r) (drop r t)
-drop-take t r n h q =
-    let e : n ≡ r + (n - r) = omega arith in
-    ap (λ m. drop r (take m t)) e ∙ (rw take-add (drop-at (take r t) (take (n - r) (drop r t)) r (length-take-le r t (omega arith))))
 
 set-last : (t rest : List ℕ) (j v : ℕ) → j < length t → set (take (suc j) t ++ rest) j v ≡ take j t ++ v ∷ rest
 set-last t rest j v h = rw (take-suc t j 0 h, append-snoc) (set-at (take j t) _ rest v j (length-take-le j t (omega arith)))
@@ -48,4 +43,4 @@ module _ (t : List ℕ) (n : ℕ) (room : n < length t) where
   pub opened-set : (r x : ℕ) → r ≤ n → set (opened t r n) r x ≡ insertAt r x (take n t) ++ drop (n + 1) t
   unfolding opened
   opened-set r x h =
-      rw (add-one, set-last t (take (n - r) (drop r t) ++ drop (suc n) t) r x (omega arith), take-take r n t h, drop-take t r n h (omega arith), append-assoc)
+      rw (add-one, set-last t (take (n - r) (drop r t) ++ drop (suc n) t) r x (omega arith), take-take r n t h, drop-take r n t, append-assoc)

@@ -8,9 +8,9 @@ use mathlib.Core.Bool.{true, false}
 use Rattle.base.specs.Branch.{caseO}
 use lib.ListN.{length, getD, take, drop, set, length-append, length-take, length-drop, drop-of-length-le, take-append-drop}
 use lib.Seq.{take-at, drop-at, take-take, length-take-le, getD-take, set-split, append-snoc, drop-drop}
+use Rattle.images.specs.Kept.{drop-take}
 use Rattle.packing.specs.Replace.{keyOf, valueOf}
 use Rattle.tables.specs.Table.{rank, lookIn, putIn, orNone, isSome, Here, look-here, look-none, over, insertAt, put-over, put-new}
-use Rattle.tables.specs.Shift.{drop-take}
 
 -- What putting x among the first n entries of t gives: the count afterwards and the list.
 pub record Put (x n : ℕ) (t : List ℕ) (r : ℕ) (t′ : List ℕ) : Type 0 where
@@ -74,7 +74,7 @@ module _ (t : List ℕ) (n x r : ℕ) (e : r ≡ rank (keyOf x) (take n t)) wher
       seam : (a : ℕ) → a ≤ n → n ≤ length t → drop a t ≡ drop a (take n t) ++ drop n t
       seam a h f =
           let b : a + (n - a) ≡ n = omega arith in
-          sym (take-append-drop (n - a) (drop a t)) ∙ ap₂ (λ (y z : List ℕ). y ++ z) (sym (drop-take t a n h f)) (drop-drop (n - a) a t ∙ ap (λ m. drop m t) b)
+          sym (take-append-drop (n - a) (drop a t)) ∙ ap₂ (λ (y z : List ℕ). y ++ z) (sym (drop-take a n t)) (drop-drop (n - a) a t ∙ ap (λ m. drop m t) b)
 
   -- Into a gap: what was inserted there.
   pub put-gap : n < length t → r ≤ n → (Here (keyOf x) (take n t) (rank (keyOf x) (take n t)) → ⊥) → (t′ : List ℕ)

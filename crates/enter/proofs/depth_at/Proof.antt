@@ -1,7 +1,8 @@
+use mathlib.Core.Path.{sym}
 use Prim.Native.Nat.{_+_}
 use native.Mathlib.Omega.{arith}
 use Rattle.sheets.specs.Form.{viewOf}
-use Rattle.enter.specs.Grow.{part-at, part-past}
+use Rattle.images.specs.Kept.{part-at, part-out}
 use borrow.Author.Needs.{needs}
 use Rattle.enter.proofs.depth_at.Statement.{statement}
 use Rattle.enter.proofs.depth_at.Tie as tie
@@ -15,7 +16,7 @@ returns : tie.Need-returns
 unfolding viewOf
 returns c =
     let a = c .before .before .args in
-    part-past (6 + a .lk + a .lk + a .lf) _ (a .e) (a .w .now) (c .if1 .taken)
+    part-out (6 + a .lk + a .lk + a .lf) _ (a .w .now) (a .e) (c .if1 .taken)
 
 add-result : tie.Need-add-result
 add-result c = search needs
@@ -39,7 +40,7 @@ returns-2 : tie.Need-returns-2
 unfolding viewOf
 returns-2 c =
     let a = c .before .before .before .args in
-    part-at (6 + a .lk + a .lk + a .lf) _ (a .e) (a .w .now) (omega arith)
+    sym (part-at (6 + a .lk + a .lk + a .lf) _ (a .w .now) (a .e) (omega arith))
 
 pub depth-at-spec : {M : Type 1} → statement M
 depth-at-spec =

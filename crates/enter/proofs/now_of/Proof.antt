@@ -1,8 +1,8 @@
 use native.Mathlib.Omega.{arith}
-use mathlib.Core.Path.{ap}
+use mathlib.Core.Path.{sym, ap}
 use Prim.Native.Nat.{_+_, _%_}
 use Rattle.sheets.specs.Form.{viewOf}
-use Rattle.enter.specs.Grow.{part-at, part-past}
+use Rattle.images.specs.Kept.{part-at, part-out}
 use borrow.Author.Needs.{needs}
 use Rattle.enter.proofs.now_of.Statement.{statement}
 use Rattle.enter.proofs.now_of.Tie as tie
@@ -13,7 +13,7 @@ returns : tie.Need-returns
 unfolding viewOf
 returns c =
     let a = c .before .args in
-    (ap (λ n. n % 256) (part-past (6 + a .lk + a .lk + a .lf + a .le) _ (a .e) (a .w .now) (c .if1 .taken)), omega arith)
+    (ap (λ n. n % 256) (part-out (6 + a .lk + a .lk + a .lf + a .le) _ (a .w .now) (a .e) (c .if1 .taken)), omega arith)
 
 add-result : tie.Need-add-result
 add-result c = search needs
@@ -40,7 +40,7 @@ returns-2 : tie.Need-returns-2
 unfolding viewOf
 returns-2 c =
     let a = c .before .before .args in
-    (ap (λ n. n % 256) (part-at (6 + a .lk + a .lk + a .lf + a .le) _ (a .e) (a .w .now) (omega arith)), omega arith)
+    (ap (λ n. n % 256) (sym (part-at (6 + a .lk + a .lk + a .lf + a .le) _ (a .w .now) (a .e) (omega arith))), omega arith)
 
 pub now-of-spec : {M : Type 1} → statement M
 now-of-spec =
