@@ -1,8 +1,8 @@
 -- Steps of the reading that the check takes by themselves, as the definitions have them.
-use mathlib.Core.Path.{_≡_, refl, sym, ap, _∙_}
+use mathlib.Core.Path.{_≡_, refl, ap, _∙_}
 use Prim.Native.Nat.{ℕ}
 use native.Mathlib.Omega.{arith}
-use mathlib.Core.List.{List, _∷_}
+use mathlib.Core.List.{_∷_}
 use lib.Dec.{eqb}
 use Rattle.base.specs.Branch.{if}
 use Rattle.rules.specs.Book.{Origin, Names}

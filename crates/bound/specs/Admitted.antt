@@ -1,19 +1,19 @@
 -- One law for each way out of putting a literal's terms to the bound.
-use mathlib.Core.Path.{_≡_, refl, sym, ap, ap₂, _∙_, subst}
-use Prim.Native.Nat.{ℕ, zero, suc, _+_, _-_, _≤_, _<_}
+use mathlib.Core.Path.{_≡_, refl, sym, ap, _∙_, subst}
+use Prim.Native.Nat.{ℕ, zero, suc, _+_, _-_}
 use native.Mathlib.Omega.{arith}
 use native.Mathlib.Numerals.{add-one}
 use mathlib.Core.Bool.{Bool, true, false}
-use mathlib.Core.Option.{Option, none, some}
+use mathlib.Core.Option.{none}
 use mathlib.Core.List.{List}
 use lib.ListN.{length}
 use lib.Dec.{leb, ltb}
 use Rattle.base.specs.Branch.{if, caseO}
-use Rattle.rules.specs.Book.{Term, Terms, nil, cons}
+use Rattle.rules.specs.Book.{Term, nil, cons}
 use Rattle.rules.specs.Reading.{Bytes}
 use Rattle.rules.specs.Sheet.{Model, domain, Limits}
-use Rattle.rules.specs.Look.{Meaning, look}
-use Rattle.rules.specs.Bound.{Bound, History, depth, admits, admitted}
+use Rattle.rules.specs.Look.{look}
+use Rattle.rules.specs.Bound.{Bound, History, admits, admitted}
 use Rattle.rules.specs.Calls.{boundOf}
 use Rattle.texts.specs.Text.{count}
 use Rattle.look.specs.declared.Look.{Look}
@@ -25,7 +25,6 @@ use Rattle.enter.specs.Terms.{Setting, Told, TermAt, TermsAt}
 use Rattle.enter.specs.Ways.{terms-first}
 use Rattle.bound.specs.declared.Depth.{Depth}
 use Rattle.bound.specs.declared.Depth.the-variants.{Of}
-use Rattle.bound.specs.declared.Asked.{Asked}
 use Rattle.bound.specs.declared.Asked.the-variants.{Refused, Known, New}
 use Rattle.bound.specs.Seen.{told-at}
 use Rattle.bound.specs.Answers.{IsDepth, IsAsked, IsAdmitted}

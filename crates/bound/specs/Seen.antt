@@ -1,23 +1,22 @@
 -- A model as a lookup sees it: told by the form, with its domain listed; and depths are small.
-use mathlib.Core.Path.{_≡_, refl, sym, ap, ap₂, _∙_, subst}
-use Prim.Native.Nat.{ℕ, zero, suc, _+_, _*_, _%_, _≤_, _<_}
+use mathlib.Core.Path.{_≡_, sym, ap, ap₂, _∙_, subst}
+use Prim.Native.Nat.{ℕ, _*_, _%_, _≤_, _<_}
 use native.Mathlib.Omega.{arith}
 use mathlib.Core.Bool.{not}
 use mathlib.Core.Logic.{_⊎_, inl, inr}
-use mathlib.Core.List.{List, [], _∷_, map}
+use mathlib.Core.List.{List, map}
 use lib.ListN.{length, getD}
 use lib.Dec.{T, T-not}
-use Rattle.base.specs.Lists.{All}
 use Rattle.base.specs.BranchLaws.{decided}
 use Rattle.base.specs.ListLaws.{map-map, all-all, all-map, all-any}
 use Rattle.rules.specs.Book.{Term, Names}
 use Rattle.rules.specs.Reading.{Bytes}
-use Rattle.rules.specs.Sheet.{Key, key, Entry, Model, domain, known, Limits}
-use Rattle.rules.specs.Look.{Meaning, elem, witness, nobody}
+use Rattle.rules.specs.Sheet.{key, Model, domain, known, Limits}
+use Rattle.rules.specs.Look.{Meaning, elem, witness}
 use Rattle.rules.specs.Bound.{History, depthOver, depthAt, depthMeaning}
 use Rattle.rules.specs.Sound.{declaredAs}
 use Rattle.images.specs.Storable.{Octet}
-use Rattle.soundness.specs.Tools.{Yielded, yielded-known, known-yielded}
+use Rattle.soundness.specs.Tools.{Yielded, yielded-known}
 use Rattle.soundness.specs.Depth.{depth-low}
 use Rattle.soundness.specs.Enter.{Means}
 use Rattle.packing.specs.Pack.{packKey, Fits, arityOf}
@@ -27,9 +26,8 @@ use Rattle.look.specs.Answers as look
 use Rattle.texts.specs.Names.{namesIn}
 use Rattle.sheets.specs.Form.{viewOf}
 use Rattle.enter.specs.Grow.{Sturdy}
-use Rattle.enter.specs.Keep.{Carries}
 use Rattle.enter.specs.Args.{depthOf, depth-is, resolved, resolved-is}
-use Rattle.enter.specs.Marks.{Holding, Proper, proper-fits, fits-eight, fits-low, yielded-octet, history-at, Still, Stands, declared-kind, witness-fits}
+use Rattle.enter.specs.Marks.{Holding, proper-fits, fits-eight, fits-low, yielded-octet, history-at, Still, Stands, declared-kind, witness-fits}
 use Rattle.enter.specs.Terms.{Setting, Told, told-holding, TermAt}
 
 -- ---- what is asked of the tables, whatever they hold

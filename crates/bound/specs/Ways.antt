@@ -1,16 +1,15 @@
 -- One law for each way out of the depth of a term and of an argument list.
-use mathlib.Core.Path.{_≡_, refl, sym, ap, ap₂, _∙_, subst}
-use Prim.Native.Nat.{ℕ, zero, suc, _+_, _-_, _*_, _%_, _≤_, _<_, max}
+use mathlib.Core.Path.{_≡_, sym, ap, ap₂, _∙_, subst}
+use Prim.Native.Nat.{ℕ, _+_, _-_, _%_, _≤_, _<_, max}
 use native.Mathlib.Omega.{arith}
-use mathlib.Core.Bool.{Bool, true, false}
 use mathlib.Core.Option.{Option, none, some}
-use mathlib.Core.List.{List, [], _∷_, map}
+use mathlib.Core.List.{List}
 use lib.ListN.{length, getD, length-map}
 use Rattle.base.specs.Branch.{caseO}
 use Rattle.base.specs.ListLaws.{all-getD}
-use Rattle.rules.specs.Book.{Term, var, con, app, Terms, nil, cons}
+use Rattle.rules.specs.Book.{Term, var, con, app, nil, cons}
 use Rattle.rules.specs.Reading.{Bytes, num}
-use Rattle.rules.specs.Sheet.{Model, domain, Limits}
+use Rattle.rules.specs.Sheet.{Model, Limits}
 use Rattle.rules.specs.Look.{Meaning, nobody, look}
 use Rattle.rules.specs.Bound.{History, depthOver, depthAt, depthMeaning, depth, depths}
 use Rattle.soundness.specs.Tools.{Yielded}
@@ -21,12 +20,11 @@ use Rattle.texts.specs.Parts.{term-grows}
 use Rattle.look.specs.declared.Look.{Look}
 use Rattle.look.specs.declared.Look.the-variants.{Elem}
 use Rattle.look.specs.Shown.{packMeaning}
-use Rattle.look.specs.Answers.{IsLook, LookGood}
+use Rattle.look.specs.Answers.{IsLook}
 use Rattle.look.specs.Ways.{look-some, look-none}
 use Rattle.sheets.specs.Form.{viewOf}
-use Rattle.enter.specs.declared.Head.{Head}
 use Rattle.enter.specs.declared.Head.the-variants.{Short, Leaf, Apply}
-use Rattle.enter.specs.Terms.{Setting, Told, told-holding, TermAt, TermsAt, Applies}
+use Rattle.enter.specs.Terms.{told-holding, TermsAt}
 use Rattle.enter.specs.Ways.{terms-first, meaning-at}
 use Rattle.bound.specs.declared.Depth.{Depth}
 use Rattle.bound.specs.declared.Depth.the-variants.{Of}

@@ -5,17 +5,16 @@ use native.Mathlib.Omega.{arith}
 use native.Mathlib.Numerals.{add-one}
 use mathlib.Core.Bool.{Bool, true, false}
 use mathlib.Core.Option.{Option, none, some}
-use mathlib.Core.List.{List, [], _∷_}
-use lib.ListN.{length, getD, take}
-use lib.Dec.{T, eqb}
+use mathlib.Core.List.{List}
+use lib.ListN.{length, take}
 use borrow.Author.Tests.{eq-eqb}
 use Rattle.base.specs.Branch.{if, caseO}
-use Rattle.rules.specs.Book.{Term, var, Terms, nil, cons, Literal, same}
+use Rattle.rules.specs.Book.{var, Literal, same}
 use Rattle.rules.specs.Reading.{Bytes}
-use Rattle.rules.specs.Sheet.{Model, domain, Limits}
-use Rattle.rules.specs.Look.{Meaning, nobody, lookMeaning, look, observed}
-use Rattle.rules.specs.Bound.{Bound, History, depthMeaning, depth, termsOf, admits, admitted}
-use Rattle.rules.specs.Child.{putMeaning, enter, Child, recorded, tell}
+use Rattle.rules.specs.Sheet.{domain, Limits}
+use Rattle.rules.specs.Look.{look, observed}
+use Rattle.rules.specs.Bound.{Bound, depth, termsOf, admits, admitted}
+use Rattle.rules.specs.Child.{enter, Child, recorded, tell}
 use Rattle.tables.specs.Table.{orNone}
 use Rattle.texts.specs.Names.{namesIn}
 use Rattle.look.specs.Answers as look

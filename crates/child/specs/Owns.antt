@@ -1,6 +1,6 @@
 -- The identities of existentials that no literal has, told one after another.
 use mathlib.Core.Path.{_≡_, refl, sym, ap, _∙_, subst}
-use Prim.Native.Nat.{ℕ, zero, suc, _+_, _-_, _≤_, _<_}
+use Prim.Native.Nat.{ℕ, suc, _+_, _-_, _≤_, _<_}
 use native.Mathlib.Omega.{arith}
 use mathlib.Core.Bool.{Bool, true, false}
 use mathlib.Core.List.{List, [], _∷_, _++_}
@@ -8,7 +8,7 @@ use lib.ListN.{length}
 use lib.Dec.{T}
 use Rattle.base.specs.Branch.{if}
 use Rattle.base.specs.Lists.{any}
-use Rattle.rules.specs.Book.{Literal, same, var, Origin, inLiteral, appended}
+use Rattle.rules.specs.Book.{Literal, Origin, inLiteral, appended}
 use Rattle.rules.specs.Reading.{Bytes}
 use Rattle.rules.specs.Sheet.{Limits}
 use Rattle.rules.specs.Bound.{Bound}

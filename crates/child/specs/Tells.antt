@@ -1,8 +1,8 @@
 -- Literals told one after another, and that a child which needed more room than there is stays so.
-use mathlib.Core.Path.{_≡_, refl, sym, ap, _∙_, subst}
-use Prim.Native.Nat.{ℕ, zero, suc, _+_, _-_, _≤_, _<_}
+use mathlib.Core.Path.{_≡_, refl, sym, _∙_, subst}
+use Prim.Native.Nat.{ℕ, _+_, _-_, _≤_, _<_}
 use native.Mathlib.Omega.{arith}
-use mathlib.Core.Bool.{Bool, true, false, _||_}
+use mathlib.Core.Bool.{Bool, true, false}
 use mathlib.Core.List.{List, [], _∷_, _++_}
 use lib.ListN.{length}
 use lib.Dec.{T}
@@ -21,7 +21,7 @@ use Rattle.texts.specs.Text.{LiteralText}
 use Rattle.texts.specs.Parts.{literals-grow}
 use Rattle.skips.specs.Rest.{Skips}
 use Rattle.enter.specs.Terms.{Setting}
-use Rattle.telling.specs.Literals.{Held, LiteralAt, Goes, IsTold}
+use Rattle.telling.specs.Literals.{Held, Goes, IsTold}
 
 -- ---- too big once is too big for good
 

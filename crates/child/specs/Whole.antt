@@ -1,26 +1,25 @@
 -- A child as a whole: for a form that holds the base, the literals of a disjunct and then the identities of its existentials that no
 -- literal has are the child of the completed disjunct.
-use mathlib.Core.Path.{_≡_, refl, sym, ap, ap₂, _∙_, subst}
+use mathlib.Core.Path.{_≡_, refl, sym, ap, _∙_, subst}
 use Prim.Native.Nat.{ℕ, zero, suc, _+_, _-_, _≤_, _<_}
 use native.Mathlib.Omega.{arith}
 use mathlib.Core.Bool.{Bool, true, false}
-use mathlib.Core.List.{List, [], _∷_, _++_, map}
-use lib.ListN.{length, take, drop, length-append, length-map}
+use mathlib.Core.List.{List, map}
+use lib.ListN.{length}
 use lib.Dec.{T}
-use Rattle.base.specs.Lists.{All, entries, from}
-use Rattle.base.specs.ListLaws.{all-all, all-map, all-append, all-take, all-drop}
-use Rattle.rules.specs.Book.{Literal, Origin, Disjunct, Names, appended, completedDisjunct}
+use Rattle.base.specs.Lists.{All, from}
+use Rattle.base.specs.ListLaws.{all-all}
+use Rattle.rules.specs.Book.{Disjunct, appended, completedDisjunct}
 use Rattle.rules.specs.Reading.{Bytes, num}
 use Rattle.rules.specs.Sheet.{Model, known, Limits}
-use Rattle.rules.specs.Look.{Meaning, elem, originMeaning, headMeanings}
-use Rattle.rules.specs.Bound.{Bound, History}
+use Rattle.rules.specs.Look.{headMeanings}
+use Rattle.rules.specs.Bound.{Bound}
 use Rattle.rules.specs.Child.{Child, tells, child}
-use Rattle.rules.specs.Sound.{declaredAs}
 use Rattle.images.specs.Storable.{Octet}
 use Rattle.soundness.specs.Tools.{Yielded, known-yielded}
 use Rattle.soundness.specs.Join.{yielded-low}
 use Rattle.soundness.specs.Neat.{Neat}
-use Rattle.soundness.specs.Book.{SmallNames, WfOrigin, WfLiteral, WfDisjunct}
+use Rattle.soundness.specs.Book.{SmallNames, WfLiteral, WfDisjunct}
 use Rattle.soundness.specs.Child.{head-means, head-length}
 use Rattle.texts.specs.Names.{namesIn}
 use Rattle.texts.specs.Reads.{Follow}
@@ -30,7 +29,6 @@ use Rattle.skips.specs.Rest.{SkipsMany}
 use Rattle.look.specs.Shown.{packMeaning}
 use Rattle.enter.specs.Keep.{Carries}
 use Rattle.enter.specs.Terms.{Setting}
-use Rattle.telling.specs.Stays.{Digits}
 use Rattle.telling.specs.Literals.{Held, Goes}
 use Rattle.child.specs.Tells.{tells-stay, tells-then, LiteralsAt, IsTells}
 use Rattle.child.specs.Owns.{IsOwns}

@@ -1,5 +1,5 @@
 -- A sheet's depths are determined by its keys: each is the least height of a name that the keys lead to the element.
-use mathlib.Core.Path.{_≡_, refl, sym, _∙_, subst}
+use mathlib.Core.Path.{_≡_, sym, _∙_, subst}
 use Prim.Native.Nat.{ℕ, _≤_}
 use native.Mathlib.Omega.{arith}
 use mathlib.Core.Bool.{not}
@@ -13,8 +13,7 @@ use Rattle.base.specs.Lists.{mem, firsts}
 use Rattle.base.specs.BranchLaws.{decided}
 use Rattle.rules.specs.Book.{Names}
 use Rattle.rules.specs.Sheet.{key, Entry, Model, find, domain, known, Limits}
-use Rattle.soundness.specs.Tools.{Yielded, yielded-known}
-use Rattle.soundness.specs.Settle.{AtRest, Reached}
+use Rattle.soundness.specs.Tools.{yielded-known}
 use Rattle.soundness.specs.Neat.{Neat}
 use Rattle.soundness.specs.Depth.{Name, name, NameList, noNames, addName, Leads, LeadAll, LeastHeight, depth-is-least-height}
 
@@ -56,17 +55,3 @@ neat-depths lim d n g = record {
   least = depth-is-least-height lim d n g;
   gone = λ e k. g .linked .gone e (λ y. T-not (known n e) k (yielded-known n e y));
 }
-
--- And no others are at rest, with each reached by a key and none for what is gone.
-pub depths-only : (lim : Limits) (d : Names) (n : Model) → Neat lim d n → (ds : List ℕ) → length ds ≡ n .created
-    → ((e : ℕ) → Yielded (n .keys) e → Reached ds (n .keys) e) → AtRest ds (n .keys) → ((e : ℕ) → (Yielded (n .keys) e → ⊥) → getD ds e 0 ≡ 0) → ds ≡ n .depths
-depths-only lim d n g ds long reached rests gone =
-    let k : Model = record { created = n .created; keys = n .keys; facts = n .facts; depths = ds } in
-    let s = g .small in
-    let i = g .listed in
-    let l = g .linked in
-    depths-unique k n refl refl (neat-depths lim d k (record {
-      small = record { fewCreated = s .fewCreated; fewKeys = s .fewKeys; fewFacts = s .fewFacts };
-      listed = record { keysRise = i .keysRise; factsRise = i .factsRise; keysDeclared = i .keysDeclared; factsDeclared = i .factsDeclared };
-      linked = record { keyArgs = l .keyArgs; factArgs = l .factArgs; low = l .low; long = long; reached = reached; rests = rests; gone = gone };
-    })) (neat-depths lim d n g)

@@ -1,7 +1,7 @@
 -- What merging makes of each element is its survivor (Forced), and keys and facts of the merged sheet are just the survivors' images
 -- of those that were there: what the rounds keep (Way) says so when no pair waits, for then colours are the elements themselves.
 -- A merge by any order comes there, and `merge` is one.
-use mathlib.Core.Path.{_≡_, refl, sym, ap, _∙_, subst}
+use mathlib.Core.Path.{_≡_, refl, sym, _∙_, subst}
 use Prim.Native.Nat.{ℕ, _≤_}
 use mathlib.Core.Logic.{_↔_}
 use mathlib.Core.Option.{some, Option·some-injective}
@@ -17,7 +17,7 @@ use Rattle.laws.specs.MergeByLaws.{merge-has}
 use Rattle.soundness.specs.Tools.{in-has, find-in}
 use Rattle.congruence.specs.Forced.{Forced, alike-args, Survives, one-survivor, survivor-stays, survivor-least}
 use Rattle.congruence.specs.Images.{keyImage, entryImage, factImage, Images, images-are}
-use Rattle.congruence.specs.Rounds.{mergeBy-ends, mergeBy-after, merge-after}
+use Rattle.congruence.specs.Rounds.{mergeBy-ends, mergeBy-after}
 use Rattle.congruence.specs.Way.{There, WayTo, way-skip, way-round, way-start}
 
 -- ---- where no pair waits
@@ -67,11 +67,6 @@ mergeBy-way order next ro rn a b m g now =
 -- What an element of the sheet is after a merge of a and b.
 unfoldable pub survivor : ℕ → ℕ → Model → ℕ → ℕ
 survivor a b m = merge a b m (λ e. e) .1
-
--- A history goes on by survivors.
-pub merge-history : (a b : ℕ) (m : Model) (now : History) (e : ℕ) → merge a b m now .1 e ≡ survivor a b m (now e)
-unfolding survivor
-merge-history a b m now e = ap (λ (r : Model × History). r .1 e) (merge-after now a b m)
 
 -- The survivor of x is no higher than x, survives itself, must be one with x, and is no higher than whatever else must.
 pub record Smallest (a b : ℕ) (m : Model) (x : ℕ) : Type 1 where

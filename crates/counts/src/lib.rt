@@ -4,7 +4,6 @@ use words::num16;
 ghost use mathlib.Core.Path.{_≡_};
 ghost use Prim.Native.Nat.{_<_};
 ghost use lib.ListN.{length, getD};
-ghost use Rattle.rules.specs.Book.{Names};
 ghost use Rattle.rules.specs.Reading.{num, witnesses, witnessArity};
 ghost use Rattle.texts.specs.Names.{namesIn, relationsAt, witnessesAt, countAt, sequentsAt};
 

@@ -1,21 +1,21 @@
 -- A run is a chain of steps: it answers (stop, k) and leaves t exactly when t comes from the pool by k unrefused steps, k is within
 -- the budget, and either the budget is spent and stop is 0, or it is not and the next step from t is refused with stop.
-use mathlib.Core.Path.{_≡_, refl, sym, ap, ap₂, _∙_, subst}
+use mathlib.Core.Path.{_≡_, refl, sym, ap, _∙_, subst}
 use Prim.Native.Nat.{ℕ, zero, suc, _-_, _≤_, _<_}
 use native.Mathlib.Nat.{le-refl}
 use native.Mathlib.Omega.{arith}
-use mathlib.Core.Bool.{Bool, true, false, not}
+use mathlib.Core.Bool.{Bool}
 use mathlib.Core.Logic.{_⊎_, inl, inr}
 use lib.ListN.{length}
-use lib.Dec.{T, eqb, eqb→eq}
+use lib.Dec.{T, eqb}
 use Rattle.base.specs.Branch.{if}
 use Rattle.base.specs.BranchLaws.{if-elim, if-true, if-false, neqb→ne}
-use Rattle.rules.specs.Book.{Sequent, Book, rules}
+use Rattle.rules.specs.Book.{Book, rules}
 use Rattle.rules.specs.Reading.{Bytes, readBook, got, caseRead}
 use Rattle.rules.specs.Sheet.{limits}
 use Rattle.rules.specs.Bound.{Bound}
 use Rattle.rules.specs.Pool.{State}
-use Rattle.rules.specs.Step.{Answer, step, Ran, run}
+use Rattle.rules.specs.Step.{step, Ran, run}
 use Rattle.rules.specs.Image.{poolBytes, poolIn}
 use Rattle.rules.specs.Sound.{sound}
 use Rattle.rules.specs.Calls.{rightLength, boundOf, knownBound, checked, soundly, Outcome, outcome, stepCall, RunOutcome, runCall, StepPromise, RunPromise}

@@ -1,38 +1,37 @@
 -- Demand 3, carried through every call on the bytes: one invariant of the world, kept by a step, a run and a take.
-use mathlib.Core.Path.{_≡_, refl, sym, ap, _∙_, subst}
-use Prim.Native.Nat.{ℕ, zero, suc, _+_, _≤_, _<_}
+use mathlib.Core.Path.{_≡_, refl, sym, subst}
+use Prim.Native.Nat.{ℕ, zero, suc, _+_, _≤_}
 use native.Mathlib.Decide.{decLe}
 use native.Mathlib.Omega.{arith}
-use mathlib.Core.Bool.{Bool, true, false, not, _&&_}
 use mathlib.Core.Logic.{_⊎_, inl, inr}
-use mathlib.Core.List.{List, [], _∷_, _++_, map}
-use lib.ListN.{length, drop, replicate}
+use mathlib.Core.List.{List, [], _∷_, _++_}
+use lib.ListN.{length, drop}
 use lib.Dec.{T, ltb, eqb, eqb→eq, ltb→lt}
-use Rattle.base.specs.Branch.{if, caseL}
+use Rattle.base.specs.Branch.{if}
 use Rattle.base.specs.Lists.{All, Some}
-use Rattle.base.specs.BranchLaws.{if-elim, caseL-elim, and-l, and-r, neqb→ne}
+use Rattle.base.specs.BranchLaws.{if-elim, caseL-elim, and-l, and-r}
 use Rattle.base.specs.ListLaws.{in-some, some-some}
 use Rattle.rules.specs.Book.{Sequent, Book, rules}
 use Rattle.rules.specs.Reading.{Bytes, readBook, got}
-use Rattle.rules.specs.Sheet.{Model, Sheet, empty, blank, limits}
+use Rattle.rules.specs.Sheet.{Model, Sheet, blank, limits}
 use Rattle.rules.specs.Pool.{State, schedulers, strategies, opened, sheetAt, used}
-use Rattle.rules.specs.Step.{Answer, step, run, listOf, taken}
-use Rattle.rules.specs.Image.{sheetSize, slotsIn, sheetBytes, sheetIn, poolBytes, poolIn}
+use Rattle.rules.specs.Step.{step, run, listOf, taken}
+use Rattle.rules.specs.Image.{sheetSize, slotsIn, sheetBytes, sheetIn, poolBytes}
 use Rattle.rules.specs.Sound.{sound}
-use Rattle.rules.specs.Calls.{rightLength, boundOf, knownBound, Outcome, outcome, openCall, stepCall, RunOutcome, runCall, TakeOutcome, takeOutcome, takeCall, OpenPromise, StepPromise, RunPromise, TakePromise}
+use Rattle.rules.specs.Calls.{rightLength, boundOf, Outcome, outcome, openCall, stepCall, RunOutcome, runCall, TakeOutcome, takeOutcome, takeCall, OpenPromise}
 use Rattle.rules.specs.Arrangement.{Arrangement, Keeps, Fits, KeepsAll}
 use Rattle.images.specs.Storable.{small-limits}
 use Rattle.images.specs.Sheets.{sheet-back}
 use Rattle.fitting.specs.Fire.{Held, held-fits, held-empty}
 use Rattle.soundness.specs.Book.{read-small}
-use Rattle.pools.specs.Count.{cnt, hit-self, cnt-append, cnt-in, in-cnt}
+use Rattle.pools.specs.Count.{cnt, hit-self, cnt-append, cnt-in}
 use Rattle.pools.specs.Tidy.{Listed, Tidy}
 use Rattle.pools.specs.Steps.{step-tidy, run-tidy, taken-tidy, opened-tidy, opened-blank, step-size, run-size, taken-size, opened-size}
 use Rattle.demands.specs.Shape.{storable-at}
-use Rattle.demands.specs.Refusals.{Passed, checked-elim, soundly-of}
-use Rattle.demands.specs.Kept.{Roomy, kids-sound, fits-roomy, back, image-fits, image-sound, sound-tidy, sound-image, slots-are, same-roomy}
+use Rattle.demands.specs.Refusals.{checked-elim, soundly-of}
+use Rattle.demands.specs.Kept.{Roomy, kids-sound, fits-roomy, back, image-fits, image-sound, sound-tidy, slots-are, same-roomy}
 use Rattle.demands.specs.Halves.{CompleteKeep, HeldIn, step-keeps, run-keeps, take-keeps, step-fits, run-fits, take-fits}
-use Rattle.demands.specs.Worlds.{Call, stepping, running, taking, World, left, tookFrom, took, After, stepped, ran, handed, Played, nothing, next, begun, stateOf, Somewhere, waits, isComplete, isBounded, wasComplete, wasBounded, Empty}
+use Rattle.demands.specs.Worlds.{Call, World, left, tookFrom, took, After, stepped, ran, handed, Played, nothing, next, begun, stateOf, Somewhere, waits, isComplete, isBounded, wasComplete, wasBounded, Empty}
 
 -- ---- the invariant
 

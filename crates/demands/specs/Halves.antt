@@ -1,35 +1,30 @@
 -- The two halves of demand 3 over a tidy state: through a step, a run and a take, every complete sheet keeps every rule, and what
 -- fits some listed sheet fits some listed sheet afterwards, or the one that was taken.
-use mathlib.Core.Path.{_≡_, refl, sym, ap, _∙_, subst}
-use Prim.Native.Nat.{ℕ, zero, suc, _+_, _≤_, _<_}
+use mathlib.Core.Path.{_≡_, refl, sym, subst}
+use Prim.Native.Nat.{ℕ, zero, suc, _+_, _≤_}
 use native.Mathlib.Nat.{le-trans}
 use native.Mathlib.Decide.{ℕ-discrete}
 use native.Mathlib.Omega.{arith}
-use mathlib.Core.Bool.{Bool, true, false, not}
 use mathlib.Core.Logic.{_⊎_, inl, inr}
-use mathlib.Core.Option.{Option, none, some}
-use mathlib.Core.List.{List, [], _∷_, _++_, map}
+use mathlib.Core.List.{List, [], _∷_, _++_}
 use lib.ListN.{length}
-use lib.Dec.{T}
-use Rattle.base.specs.Branch.{if}
-use Rattle.base.specs.Lists.{All, Some, any, isNil}
+use Rattle.base.specs.Lists.{All}
 use Rattle.base.specs.BranchLaws.{if-elim}
 use Rattle.base.specs.ListLaws.{all-both, all-append}
 use Rattle.rules.specs.Book.{Sequent, Book, rules}
-use Rattle.rules.specs.Sheet.{Model, Sheet, Limits}
-use Rattle.rules.specs.Fire.{Firing, firing, placeAfter}
+use Rattle.rules.specs.Sheet.{Sheet, Limits}
+use Rattle.rules.specs.Fire.{Firing, placeAfter}
 use Rattle.rules.specs.Bound.{Bound}
-use Rattle.rules.specs.Child.{Child}
 use Rattle.rules.specs.Pool.{State, sheetAt, used, free, changed}
 use Rattle.rules.specs.Step.{Placed, placed, Answer, refuse, done, withPlaced, withoutBase, step, Ran, run, listOf, taken}
 use Rattle.rules.specs.Arrangement.{Arrangement, Keeps, KeepsAll}
 use Rattle.laws.specs.Firing.{visits-cover, visits-within, nothing-keeps}
 use Rattle.fitting.specs.Fire.{Held, fired-held, failed-none}
-use Rattle.pools.specs.Count.{hit, cnt, hit-self, hit-other, cnt-append, cnt-all, all-cnt}
+use Rattle.pools.specs.Count.{hit-other, cnt-append, cnt-all}
 use Rattle.pools.specs.Slots.{free-more, placed-some}
 use Rattle.pools.specs.Tidy.{Listed, Tidy}
-use Rattle.pools.specs.Moves.{Kept, kept-tidy, New, placed-old, placed-has}
-use Rattle.pools.specs.Steps.{strategyIn, visited, kidsOf, Did, refusing, completing, failing, branching, step-did, first-counts, first-listed, base-kept, base-counts, done-kept, done-counts, KidsSound, branch-new, step-tidy, taken-kept, taken-counts}
+use Rattle.pools.specs.Moves.{kept-tidy, New, placed-old, placed-has}
+use Rattle.pools.specs.Steps.{strategyIn, visited, kidsOf, Did, refusing, completing, failing, branching, step-did, first-listed, base-kept, base-counts, done-kept, done-counts, KidsSound, branch-new, step-tidy, taken-kept, taken-counts}
 
 -- ---- the first half
 

@@ -1,29 +1,24 @@
 -- Open's pool is sound for its book, and each unrefused step, run and take makes a sound pool of a sound one, read off the bytes.
 use mathlib.Core.Path.{_≡_, refl, sym, ap, _∙_, subst}
-use Prim.Native.Nat.{ℕ, zero, suc, _+_, _*_, _≤_, _<_}
-use native.Mathlib.Nat.{le-refl, le-trans}
+use Prim.Native.Nat.{ℕ, zero, suc, _+_, _*_, _≤_}
 use native.Mathlib.Omega.{arith}
-use mathlib.Core.Bool.{Bool, true, false, not, _&&_}
-use mathlib.Core.List.{List, [], _∷_, _++_, map}
+use mathlib.Core.Bool.{not}
+use mathlib.Core.List.{map}
 use lib.ListN.{length, drop, length-map}
-use lib.Dec.{T, leb, ltb, eqb, eqb→eq, leb→le, le→leb, ltb→lt}
-use Rattle.base.specs.Branch.{if, caseL}
-use Rattle.base.specs.Lists.{All, equal}
+use lib.Dec.{T, leb, ltb, eqb, leb→le, le→leb, ltb→lt}
+use Rattle.base.specs.Lists.{equal}
 use Rattle.base.specs.BranchLaws.{if-elim, caseL-elim, and-l, and-r, and-i, eq→eqb, neqb→ne}
 use Rattle.base.specs.ListLaws.{all-all, equal-eq, equal-self}
-use Rattle.rules.specs.Book.{Sequent, Book, rules}
+use Rattle.rules.specs.Book.{Book, rules}
 use Rattle.rules.specs.Reading.{Bytes, readBook, got}
-use Rattle.rules.specs.Sheet.{Model, limits}
-use Rattle.rules.specs.Fire.{Firing, firing}
-use Rattle.rules.specs.Bound.{Bound}
+use Rattle.rules.specs.Sheet.{limits}
 use Rattle.rules.specs.Child.{Child, child}
-use Rattle.rules.specs.Pool.{State, schedulers, strategies, opened, sheetAt}
-use Rattle.rules.specs.Step.{Answer, step, Ran, run, lists, listOf, taken}
-use Rattle.rules.specs.Image.{mostSlots, headSize, sheetSize, slotsIn, parts, poolBytes, poolIn, sheetBytes}
+use Rattle.rules.specs.Pool.{State, schedulers, strategies, opened}
+use Rattle.rules.specs.Step.{step, run, taken}
+use Rattle.rules.specs.Image.{mostSlots, headSize, sheetSize, slotsIn, parts, poolBytes, poolIn}
 use Rattle.rules.specs.Sound.{soundModel, soundState, sound}
-use Rattle.rules.specs.Calls.{rightLength, boundOf, knownBound, Outcome, outcome, openCall, stepCall, RunOutcome, runCall, TakeOutcome, takeOutcome, takeCall}
-use Rattle.laws.specs.Firing.{Within}
-use Rattle.images.specs.Storable.{SmallLimits, small-limits}
+use Rattle.rules.specs.Calls.{rightLength, boundOf, Outcome, outcome, openCall, stepCall, RunOutcome, runCall, TakeOutcome, takeOutcome, takeCall}
+use Rattle.images.specs.Storable.{small-limits}
 use Rattle.images.specs.Pools.{pool-length, slots-in, pool-back}
 use Rattle.soundness.specs.Neat.{Neat}
 use Rattle.soundness.specs.Model.{sound-neat, neat-sound}
@@ -32,7 +27,7 @@ use Rattle.soundness.specs.Child.{kids-neat}
 use Rattle.pools.specs.Tidy.{Tidy, tidy, tidy-sound}
 use Rattle.pools.specs.Steps.{KidsSound, step-tidy, run-tidy, taken-tidy, opened-tidy, step-size, run-size, taken-size, opened-size}
 use Rattle.demands.specs.Shape.{tidy-storable}
-use Rattle.demands.specs.Refusals.{Passed, checked-elim, soundly-elim}
+use Rattle.demands.specs.Refusals.{checked-elim, soundly-elim}
 
 -- A state with from 1 to 64 slots.
 pub record Roomy (s : State) : Type 0 where

@@ -1,7 +1,6 @@
 -- Each promise has an outcome at every input, any two outcomes that have it are equal, and a refused call changes no byte.
-use mathlib.Core.Path.{_≡_, refl, sym, ap, _∙_}
-use Prim.Native.Nat.{ℕ, zero, suc, _≤_}
-use native.Mathlib.Omega.{arith}
+use mathlib.Core.Path.{_≡_, refl, sym, _∙_}
+use Prim.Native.Nat.{ℕ}
 use mathlib.Core.Logic.{_⊎_, inl, inr}
 use lib.Dec.{T}
 use Rattle.base.specs.BranchLaws.{if-elim, caseL-elim}

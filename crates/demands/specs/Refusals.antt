@@ -1,16 +1,16 @@
 -- A book is refused by one of the numbers 1 to 10, and what a call does is one of two things: it refuses by a number from 1 on, or
 -- its book was read, its pool has a right length, its settings are known, and (but for open) its pool is sound.
-use mathlib.Core.Path.{_≡_, refl, sym, ap, _∙_, subst}
-use Prim.Native.Nat.{ℕ, zero, suc, _+_, _≤_, _<_}
+use mathlib.Core.Path.{_≡_, refl, sym, subst}
+use Prim.Native.Nat.{ℕ, zero, suc, _+_, _≤_}
 use native.Mathlib.Omega.{arith}
-use mathlib.Core.Bool.{Bool, true, false, not, _&&_}
-use mathlib.Core.List.{List, [], _∷_}
+use mathlib.Core.Bool.{Bool}
+use mathlib.Core.List.{[], _∷_}
 use lib.ListN.{length, getD}
-use lib.Dec.{T, leb, ltb, eqb}
+use lib.Dec.{T}
 use Rattle.base.specs.Branch.{if}
 use Rattle.base.specs.BranchLaws.{if-elim}
-use Rattle.rules.specs.Book.{Term, var, con, app, terms, Literal, fact, same, Origin, Disjunct, Sequent, Names, Book}
-use Rattle.rules.specs.Reading.{Bytes, Read, got, refused, caseRead, andThen, giving, many, number, ranged, declared, markByte, mark, version, namesAt, levels, termAt, literalAt, originAt, witnesses, witnessArity, disjunctAt, sequentAt, ended, readBook}
+use Rattle.rules.specs.Book.{var, con, app, terms, fact, same, Names, Book}
+use Rattle.rules.specs.Reading.{Bytes, Read, got, refused, caseRead, andThen, giving, many, number, ranged, declared, markByte, mark, version, namesAt, levels, termAt, literalAt, originAt, witnesses, disjunctAt, sequentAt, ended, readBook}
 use Rattle.rules.specs.Sheet.{limits}
 use Rattle.rules.specs.Pool.{State}
 use Rattle.rules.specs.Image.{poolIn}

@@ -1,32 +1,30 @@
 -- A sound state of at most 64 slots fits its image: every number in it is small enough to be written and read back.
-use mathlib.Core.Path.{_≡_, refl, sym, ap, _∙_, subst}
-use Prim.Native.Nat.{ℕ, zero, suc, _+_, _*_, _≤_, _<_, max}
+use mathlib.Core.Path.{_≡_, refl, sym, subst}
+use Prim.Native.Nat.{ℕ, zero, suc, _+_, _≤_, _<_}
 use native.Mathlib.Nat.{le-refl, le-trans}
-use native.Mathlib.Decide.{decLe, ℕ-discrete}
+use native.Mathlib.Decide.{decLe}
 use native.Mathlib.Omega.{arith}
-use mathlib.Core.Bool.{Bool, true, false, not, _&&_}
+use mathlib.Core.Bool.{not, _&&_}
 use mathlib.Core.Logic.{_⊎_, inl, inr}
-use mathlib.Core.List.{List, [], _∷_, _++_, map}
+use mathlib.Core.List.{List, [], _∷_, _++_}
 use lib.ListN.{length, getD, length-append}
 use lib.Dec.{T, ltb, eqb, eqb→eq, ltb→lt}
-use Rattle.base.specs.Branch.{if}
-use Rattle.base.specs.Lists.{All, Some}
+use Rattle.base.specs.Lists.{All}
 use Rattle.base.specs.BranchLaws.{if-elim, and-l, and-r, decided}
 use Rattle.base.specs.ListLaws.{all-all, all-both, all-getD, all-left, all-right}
 use Rattle.rules.specs.Book.{Names, Book}
-use Rattle.rules.specs.Sheet.{Fact, Entry, Model, Sheet, blank, known, Limits, limits}
+use Rattle.rules.specs.Sheet.{Fact, Entry, Model, blank, known, Limits}
 use Rattle.rules.specs.Fire.{Strategy, linear, fair, places}
 use Rattle.rules.specs.Pool.{State, schedulers, strategies, strategyOf, numbers, sheetAt, used}
 use Rattle.rules.specs.Image.{mostSlots}
 use Rattle.rules.specs.Sound.{hasArity, declaredAs, keyDeclared, factDeclared, soundModel, soundSheet}
-use Rattle.images.specs.Storable.{SmallLimits, FewKey, FewFact, StorableModel, StorableSheet, StorableState, Octet, ByteKey, ByteFact, ByteModel, ByteSheet, ByteState, blank-storable, blank-bytes}
-use Rattle.soundness.specs.Tools.{Yielded, yielded-has, known-yielded}
-use Rattle.soundness.specs.Join.{Linked}
+use Rattle.images.specs.Storable.{FewKey, FewFact, StorableModel, StorableSheet, StorableState, Octet, ByteKey, ByteFact, ByteModel, ByteSheet, ByteState, blank-storable, blank-bytes}
+use Rattle.soundness.specs.Tools.{Yielded, yielded-has}
 use Rattle.soundness.specs.Neat.{Neat}
 use Rattle.soundness.specs.Model.{sound-neat}
 use Rattle.soundness.specs.Book.{SmallNames}
 use Rattle.soundness.specs.Depth.{depth-low}
-use Rattle.pools.specs.Count.{hit, cnt, hit-elim, hit-self, hit-other, cnt-all}
+use Rattle.pools.specs.Count.{hit, cnt, hit-elim, hit-other, cnt-all}
 use Rattle.pools.specs.Tidy.{Listed, placesOf, Tidy}
 
 -- ---- a list of different numbers below n is no longer than n: count each number below n

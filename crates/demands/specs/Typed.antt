@@ -1,16 +1,13 @@
 -- An arrangement keeps the rules exactly when it keeps the sequents as they are typed: the identities that are appended for
 -- existentials in no literal are true of every arrangement.
-use mathlib.Core.Path.{_≡_, refl, sym, ap, _∙_, subst}
 use Prim.Native.Nat.{ℕ, suc}
-use mathlib.Core.Bool.{Bool, true, false, _&&_, _||_}
-use mathlib.Core.Logic.{_⊎_, inl, inr}
+use mathlib.Core.Logic.{inl, inr}
 use mathlib.Core.List.{List, [], _∷_, _++_, map}
-use lib.ListN.{length}
 use lib.Dec.{T, eqb-refl}
-use Rattle.base.specs.Lists.{All, Some, all, any}
+use Rattle.base.specs.Lists.{All, Some}
 use Rattle.base.specs.BranchLaws.{if-elim}
 use Rattle.base.specs.ListLaws.{all-all, all-map, all-unmap, some-some, all-of, of-all, all-append, all-left, any-some, some-any, some-map}
-use Rattle.rules.specs.Book.{Literal, same, var, Origin, Disjunct, Sequent, Book, appended, completedDisjunct, completed, rules}
+use Rattle.rules.specs.Book.{Literal, var, Origin, Disjunct, Sequent, Book, appended, completedDisjunct, completed, rules}
 use Rattle.rules.specs.Arrangement.{Arrangement, eval, isTrue, disjunctTrue, headTrue, bodyTrue, KeepsRule, Keeps}
 
 appended-true : (A : Arrangement) (env : List ℕ) (v : ℕ) (os : List Origin) (ls : List Literal) → All (λ l. T (isTrue A env l)) (appended v os ls)

@@ -1,11 +1,10 @@
 -- The five useless engines of document 01. Each is a function from a run's inputs to an outcome, and at a named input the promise of
 -- a run is false of it. The input is the book of document 01's listing example and a pool of one slot, opened with it; what the
 -- promise asks there is computed from the bytes.
-use mathlib.Core.Path.{_≡_, refl, sym, ap, _∙_}
-use Prim.Native.Nat.{ℕ, zero, suc, _+_}
+use mathlib.Core.Path.{_≡_, refl, _∙_}
+use Prim.Native.Nat.{ℕ}
 use native.Mathlib.Omega.{arith}
-use mathlib.Core.Bool.{Bool, true, false}
-use mathlib.Core.List.{List, [], _∷_, _++_, map}
+use mathlib.Core.List.{List, [], _∷_, map}
 use lib.ListN.{replicate}
 use Rattle.base.specs.Branch.{if, caseO, caseL, three, order}
 use Rattle.base.specs.Lists.{mem, without, firsts, distinct, keep, firstOf, from, entries, flat, equal}
@@ -20,7 +19,7 @@ use Rattle.rules.specs.Pool.{schedulers, schedulerOf, strategies, strategyOf, n
 use Rattle.rules.specs.Step.{placed, stored, openSlots, cutSlots, pushed, schedule, refuse, done, withPlaced, withoutBase, withChildren, stepOn, step, run}
 use Rattle.rules.specs.Image.{word, long, padded, entryBytes, keyBytes, factBytes, sheetHead, sheetBytes, poolMark, mostSlots, poolHead, poolBytes, headSize, sheetSize, slotsIn, part, argsIn, keyIn, factIn, parts, sheetIn, listIn, poolIn}
 use Rattle.rules.specs.Sound.{rising, risingFrom, hasArity, declaredAs, keyDeclared, factDeclared, least, depthRight, soundModel, soundSheet, isBlank, soundLists, soundNumbers, soundState, sound}
-use Rattle.rules.specs.Calls.{rightLength, bounds, boundOf, knownBound, checked, soundly, Outcome, outcome, openCall, stepCall, RunOutcome, runCall, RunPromise}
+use Rattle.rules.specs.Calls.{rightLength, bounds, boundOf, knownBound, checked, soundly, outcome, openCall, stepCall, RunOutcome, runCall, RunPromise}
 
 -- ---- the input
 

@@ -3,16 +3,14 @@
 use mathlib.Core.Path.{_≡_}
 use Prim.Native.Nat.{ℕ, zero, suc}
 use mathlib.Core.List.{List, [], _∷_}
-use lib.Dec.{T, eqb}
+use lib.Dec.{eqb}
 use Rattle.base.specs.Branch.{if}
-use Rattle.base.specs.Lists.{All, Some}
-use Rattle.rules.specs.Book.{Sequent}
+use Rattle.base.specs.Lists.{Some}
 use Rattle.rules.specs.Reading.{Bytes}
 use Rattle.rules.specs.Sheet.{Model, Sheet, limits}
 use Rattle.rules.specs.Pool.{State, sheetAt}
 use Rattle.rules.specs.Image.{sheetIn, poolIn}
 use Rattle.rules.specs.Calls.{StepPromise, RunPromise, TakePromise}
-use Rattle.rules.specs.Arrangement.{Arrangement, Keeps, Fits, KeepsAll}
 
 -- A call after the opening, with all that the caller chooses: any bound, number, budget, list and output.
 pub data Call : Type 0 where

@@ -1,6 +1,6 @@
 -- The arguments of a packed key, each through a table: the depth over them, and the key at what they are now.
 -- A key q is taken as the entry q * 256, whose digits `packing` reads.
-use mathlib.Core.Path.{_≡_, refl, sym, ap, _∙_, subst}
+use mathlib.Core.Path.{_≡_, refl, sym, ap, _∙_}
 use Prim.Native.Nat.{ℕ, zero, suc, _+_, _*_, _/_, _%_, _^_, _≤_, _<_, max}
 use native.Mathlib.Omega.{arith}
 use mathlib.Core.List.{List, [], _∷_, map}

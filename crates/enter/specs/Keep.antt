@@ -1,18 +1,17 @@
 -- A form that carries a model and a history, and what putting a key in does to it: what the code says of numbers, and what that
 -- says of the model.
 use mathlib.Core.Path.{_≡_, refl, sym, ap, ap₂, _∙_, subst}
-use Prim.Native.Nat.{ℕ, suc, _+_, _*_, _^_, _≤_, _<_}
+use Prim.Native.Nat.{ℕ, suc, _+_, _*_, _≤_, _<_}
 use native.Mathlib.Omega.{arith}
 use native.Mathlib.Numerals.{add-one}
 use mathlib.Core.Logic.{_⊎_, inl, inr}
-use mathlib.Core.Option.{Option, none, some, Option·some-injective, Option·none-ne-some, Option·some-ne-none}
+use mathlib.Core.Option.{none, some, Option·some-injective, Option·none-ne-some, Option·some-ne-none}
 use mathlib.Core.List.{List, [], _∷_, _++_, map}
 use lib.ListN.{length, getD, take, drop, length-map}
 use Rattle.base.specs.Lists.{All, from}
 use Rattle.base.specs.BranchLaws.{caseO-elim}
 use Rattle.rules.specs.Book.{Names}
-use Rattle.rules.specs.Sheet.{Key, Entry, Model, find, insertKey, Limits}
-use Rattle.rules.specs.Image.{part}
+use Rattle.rules.specs.Sheet.{Key, Model, find, Limits}
 use Rattle.rules.specs.Bound.{History, depthOver, depthAt}
 use Rattle.rules.specs.Child.{add, put}
 use Rattle.laws.specs.Tables.{find-all}

@@ -4,14 +4,13 @@ use Prim.Native.Nat.{ℕ, _+_, _-_, _≤_, _<_}
 use mathlib.Core.List.{List, map}
 use lib.ListN.{length, getD}
 use Rattle.base.specs.Lists.{All}
-use Rattle.rules.specs.Book.{Term, app, Terms, Names}
+use Rattle.rules.specs.Book.{Term, app, Terms}
 use Rattle.rules.specs.Reading.{Bytes}
 use Rattle.rules.specs.Sheet.{Entry, Model, Limits}
 use Rattle.rules.specs.Look.{Meaning, nobody}
 use Rattle.rules.specs.Bound.{History}
 use Rattle.rules.specs.Child.{putMeaning, enter, enters}
 use Rattle.soundness.specs.Tools.{Yielded}
-use Rattle.soundness.specs.Neat.{Neat}
 use Rattle.soundness.specs.Book.{SmallNames, WfTerm, WfTerms}
 use Rattle.soundness.specs.Enter.{Tidy, Means}
 use Rattle.texts.specs.Names.{namesIn}

@@ -1,24 +1,22 @@
 -- One law for each way out of entering a variable, a term and an argument list.
-use mathlib.Core.Path.{_≡_, refl, sym, ap, ap₂, _∙_, subst}
+use mathlib.Core.Path.{_≡_, refl, sym, ap, _∙_, subst}
 use Prim.Native.Nat.{ℕ, zero, suc, _+_, _-_, _*_, _/_, _≤_, _<_}
 use native.Mathlib.Omega.{arith}
 use mathlib.Core.List.{List, [], _∷_, map}
 use lib.ListN.{length, getD, length-map}
 use lib.Dec.{T}
-use Rattle.base.specs.Lists.{All}
 use Rattle.base.specs.ListLaws.{all-getD, all-all}
-use Rattle.rules.specs.Book.{Term, var, con, app, Terms, nil, cons, Names}
+use Rattle.rules.specs.Book.{Term, var, con, app, Terms, nil, cons}
 use Rattle.rules.specs.Reading.{Bytes, num}
-use Rattle.rules.specs.Sheet.{Key, key, Model, Limits}
+use Rattle.rules.specs.Sheet.{key, Model, Limits}
 use Rattle.rules.specs.Look.{Meaning, elem, witness, nobody}
 use Rattle.rules.specs.Bound.{History}
 use Rattle.rules.specs.Child.{put, putMeaning, enter, enters}
 use Rattle.rules.specs.Sound.{declaredAs}
 use Rattle.soundness.specs.Tools.{Yielded}
-use Rattle.soundness.specs.Join.{Follows}
-use Rattle.soundness.specs.Book.{WfTerm, WfTerms}
+use Rattle.soundness.specs.Book.{WfTerm}
 use Rattle.soundness.specs.Book as sound
-use Rattle.soundness.specs.Enter.{Tidy, Means, enters-count, enter-entered, enters-entered}
+use Rattle.soundness.specs.Enter.{Means, enters-count, enter-entered, enters-entered}
 use Rattle.packing.specs.Pack.{packKey}
 use Rattle.texts.specs.Names.{namesIn}
 use Rattle.texts.specs.Text.{count, TermText, TermsText}
@@ -27,11 +25,10 @@ use Rattle.look.specs.Shown.{packMeaning}
 use Rattle.look.specs.Digits.{start, top, packArgs, pack-args}
 use Rattle.enter.specs.declared.Entered.{Entered}
 use Rattle.enter.specs.declared.Entered.the-variants.{Full, At}
-use Rattle.enter.specs.declared.Head.{Head}
 use Rattle.enter.specs.declared.Head.the-variants.{Short, Leaf, Apply}
-use Rattle.enter.specs.Keep.{Carries, PutIs, Crowded}
-use Rattle.enter.specs.Grows.{put-grows, enter-grows, enters-grow, crowded-grows}
-use Rattle.enter.specs.Marks.{Holding, Proper, proper-fits, Recorded, Still, Stands, Meant}
+use Rattle.enter.specs.Keep.{PutIs, Crowded}
+use Rattle.enter.specs.Grows.{put-grows, enters-grow, crowded-grows}
+use Rattle.enter.specs.Marks.{Proper, proper-fits, Recorded, Still, Stands, Meant}
 use Rattle.enter.specs.Terms.{Setting, Told, told-holding, TermAt, TermsAt, Answers, EnterGood, EntersGood, EnterIs, EntersIs, IsVariable, IsEnter, IsEnters, Applies, HeadIs}
 
 -- The two counts of terms are one.

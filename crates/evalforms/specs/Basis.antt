@@ -1,5 +1,5 @@
 -- A working form that holds a sound sheet of a book, and what the evaluator answers on its regions.
-use mathlib.Core.Path.{_≡_, refl, sym, ap, _∙_, subst}
+use mathlib.Core.Path.{_≡_, ap, _∙_, subst}
 use Prim.Native.Nat.{ℕ, _+_, _-_, _≤_}
 use native.Mathlib.Omega.{arith}
 use mathlib.Core.List.{List, map}
@@ -9,7 +9,6 @@ use Rattle.base.specs.Lists.{firsts}
 use Rattle.rules.specs.Book.{Book, rules}
 use Rattle.rules.specs.Reading.{Bytes, num, got, readBook}
 use Rattle.rules.specs.Sheet.{Sheet, domain, Limits}
-use Rattle.rules.specs.Image.{part}
 use Rattle.rules.specs.Fire.{firing, visits}
 use Rattle.rules.specs.Pool.{strategyOf}
 use Rattle.soundness.specs.Neat.{Neat}
@@ -17,7 +16,7 @@ use Rattle.soundness.specs.Book.{SmallNames}
 use Rattle.packing.specs.Pack.{packEntry, packFact, arityOf}
 use Rattle.packing.specs.Replace.{valueOf}
 use Rattle.sheets.specs.Parts.{part-front}
-use Rattle.sheets.specs.Form.{viewOf, Holds, keysAt, factsAt, depthsAt, formSize}
+use Rattle.sheets.specs.Form.{viewOf, Holds, keysAt, factsAt}
 use Rattle.texts.specs.Names.{namesIn, countAt}
 use Rattle.domains.specs.Firsts.{domain-is}
 use Rattle.look.specs.Shown.{neat-keys-fit}

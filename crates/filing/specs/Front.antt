@@ -4,8 +4,8 @@ use Prim.Native.Nat.{ℕ, zero, suc, _+_, _-_, _≤_, _<_}
 use native.Mathlib.Omega.{arith}
 use native.Mathlib.Numerals.{add-one}
 use mathlib.Core.List.{List, [], _∷_, _++_, map}
-use lib.ListN.{length, getD, take, drop, set, length-take, length-map, drop-of-length-le}
-use lib.Seq.{drop-cons, getD-take, take-at, length-take-le, drop-drop}
+use lib.ListN.{length, getD, take, drop, set, length-take, drop-of-length-le}
+use lib.Seq.{drop-cons, getD-take, drop-drop}
 use Rattle.images.specs.Kept.{drop-take}
 
 unfoldable pub mapFront : (ℕ → ℕ) → ℕ → List ℕ → List ℕ
@@ -29,11 +29,6 @@ more f (suc i) (x ∷ t) h = ap (λ (l : List ℕ). f x ∷ l) (more f i t (omeg
 
 pub mapFront-more : (f : ℕ → ℕ) (i : ℕ) (t : List ℕ) → i < length t → set (mapFront f i t) i (f (getD t i 0)) ≡ mapFront f (i + 1) t
 mapFront-more f i t h = rw add-one (more f i t h)
-
--- The front and the rest of what a whole pass gives.
-pub mapFront-take : (f : ℕ → ℕ) (n : ℕ) (t : List ℕ) → n ≤ length t → take n (mapFront f n t) ≡ map f (take n t)
-unfolding mapFront
-mapFront-take f n t h = take-at (map f (take n t)) (drop n t) n (length-map (take n t) f ∙ length-take-le n t h)
 
 -- What is left of the first n entries at place i: an entry and the rest; at n, nothing.
 pub front-cons : (t : List ℕ) (n i : ℕ) → n ≤ length t → i < n → drop i (take n t) ≡ getD t i 0 ∷ drop (i + 1) (take n t)

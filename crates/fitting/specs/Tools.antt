@@ -9,7 +9,7 @@ use lib.Dec.{T}
 use Rattle.base.specs.Branch.{if, caseO}
 use Rattle.base.specs.Lists.{All, entries}
 use Rattle.base.specs.BranchLaws.{if-elim, caseO-elim}
-use Rattle.base.specs.ListLaws.{map-append, all-append, all-take, all-drop}
+use Rattle.base.specs.ListLaws.{map-append}
 
 -- ---- a branch that came out
 

@@ -1,9 +1,8 @@
 -- A sheet written into its slot: the image of the state that has it there.
 use mathlib.Core.Path.{_≡_, refl, sym, ap, _∙_}
 use Prim.Native.Nat.{ℕ, _+_, _*_, _<_}
-use mathlib.Core.List.{List, _++_}
+use mathlib.Core.List.{_++_}
 use lib.ListN.{length, take, drop, set}
-use Rattle.rules.specs.Reading.{Bytes}
 use Rattle.rules.specs.Sheet.{Sheet, Limits}
 use Rattle.rules.specs.Pool.{State, changed}
 use Rattle.rules.specs.Image.{poolHead, poolBytes, sheetBytes, headSize, sheetSize}

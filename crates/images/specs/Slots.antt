@@ -1,4 +1,4 @@
--- The parts of a pool's image that code reads and writes in place: the head, and the bytes of one slot.
+-- The part of a pool's image that code reads and writes in place: the bytes of one slot.
 -- An image is cut around the slot, what stands before it having the length that its index says.
 use mathlib.Core.Path.{_≡_, sym, ap, ap₂, _∙_}
 use Prim.Native.Nat.{ℕ, suc, _+_, _*_, _<_}
@@ -16,21 +16,6 @@ use Rattle.images.specs.Regions.{table-before, table-split, table-set}
 use Rattle.images.specs.Storable.{StorableSheet, StorableState}
 use Rattle.images.specs.Sheets.{sheet-length}
 use Rattle.images.specs.Pools.{head-length}
-
--- ---- the head
-
-pub head-part : (lim : Limits) (s : State) → StorableState lim s → take headSize (poolBytes lim s) ≡ poolHead s
-unfolding poolBytes
-head-part lim s st = take-at (poolHead s) _ headSize (head-length lim s st)
-
--- Another head over the same slots.
-pub head-set : (lim : Limits) (s t : State) → StorableState lim s → t .slots ≡ s .slots → poolBytes lim t ≡ poolHead t ++ drop headSize (poolBytes lim s)
-unfolding poolBytes
-head-set lim s t st e =
-    ap (λ (l : List Sheet). poolHead t ++ flat (map (sheetBytes lim) l)) e
-    ∙ ap (λ (l : Bytes). poolHead t ++ l) (sym (drop-at (poolHead s) (flat (map (sheetBytes lim) (s .slots))) headSize (head-length lim s st)))
-
--- ---- a slot
 
 module _ (lim : Limits) (s : State) (st : StorableState lim s) (i : ℕ) (h : i < length (s .slots)) where
   -- What stands before the slot, and behind it.

@@ -1,15 +1,14 @@
 -- Firing: what fires was visited and is at a choice of the domain; where nothing fires, no visited sequent fires at any choice.
 -- The choices are just the lists of living elements of the right length. Each strategy visits each sequent at least once.
-use mathlib.Core.Path.{_≡_, refl, sym, ap, ap₂, _∙_, subst}
-use Prim.Native.Nat.{ℕ, zero, suc, _≤_, _<_}
+use mathlib.Core.Path.{_≡_, refl, sym, ap, subst}
+use Prim.Native.Nat.{ℕ, zero, suc}
 use native.Mathlib.Omega.{arith}
-use mathlib.Core.Bool.{Bool, true, false, not, _&&_, _||_}
-use mathlib.Core.Option.{Option, none, some, Option·none-ne-some, Option·some-ne-none, Option·some-injective}
-use mathlib.Core.List.{List, [], _∷_, _++_, map}
+use mathlib.Core.Bool.{Bool, true, false, not}
+use mathlib.Core.Option.{none, some, Option·none-ne-some, Option·some-ne-none, Option·some-injective}
+use mathlib.Core.List.{List, [], _∷_, map}
 use lib.ListN.{length, take, drop}
-use lib.Dec.{T, T-not, not-T}
-use Rattle.base.specs.Branch.{if, caseO}
-use Rattle.base.specs.Lists.{All, mem, flat, firstOf}
+use lib.Dec.{T, T-not}
+use Rattle.base.specs.Lists.{All, mem}
 use Rattle.base.specs.BranchLaws.{caseO-elim, and-i}
 use Rattle.base.specs.ListLaws.{all-all, all-map, all-unmap, all-append, all-left, all-right, all-take, all-drop, all-parts, all-flat, all-unflat, all-mem, first-is, first-none}
 use Rattle.rules.specs.Book.{Sequent}

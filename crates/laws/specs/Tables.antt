@@ -1,20 +1,15 @@
 -- Tables of keys and facts: what is found was there, inserting keeps what holds of all entries, and keeps them rising.
-use mathlib.Core.Path.{_≡_, refl, sym, ap, ap₂, _∙_, subst}
-use Prim.Native.Nat.{ℕ, zero, suc, _+_, _≤_, _<_, Ordering, Ordering·lt, Ordering·eq, Ordering·gt}
-use native.Mathlib.Nat.{le-refl, le-trans}
-use native.Mathlib.Omega.{arith}
-use mathlib.Core.Bool.{Bool, true, false, not, _&&_}
-use mathlib.Core.Logic.{_⊎_, inl, inr, Lift}
-use mathlib.Core.Option.{Option, none, some, Option·none-ne-some, Option·some-injective}
-use mathlib.Core.List.{List, [], _∷_, _++_, map, head-eq-of-cons-eq, tail-eq-of-cons-eq}
-use lib.ListN.{length}
+use mathlib.Core.Path.{_≡_, sym, subst}
+use Prim.Native.Nat.{ℕ, Ordering·lt}
+use mathlib.Core.Option.{some, Option·none-ne-some, Option·some-injective}
+use mathlib.Core.List.{List, [], _∷_, head-eq-of-cons-eq, tail-eq-of-cons-eq}
 use lib.Dec.{T, isEq}
-use Rattle.base.specs.Branch.{if, caseO, three, isLt, order}
-use Rattle.base.specs.Lists.{All, Some, all}
-use Rattle.base.specs.BranchLaws.{if-elim, caseO-elim, three-elim, and-l, and-r, and-i, order-eq, order-trans, order-flip, isLt-is, is-isLt}
+use Rattle.base.specs.Branch.{isLt}
+use Rattle.base.specs.Lists.{All}
+use Rattle.base.specs.BranchLaws.{three-elim, and-l, and-r, and-i, order-eq, order-trans, order-flip, isLt-is, is-isLt}
 use Rattle.base.specs.ListLaws.{all-all}
 use Rattle.rules.specs.Sheet.{Key, Fact, Entry, keyOrder, factOrder, find, holds, insertKey, insertFact}
-use Rattle.rules.specs.Merge.{Pair, Filed, file, refile, refact}
+use Rattle.rules.specs.Merge.{Filed, file, refile, refact}
 use Rattle.rules.specs.Sound.{rising, risingFrom}
 
 -- ---- what compares as equal is equal

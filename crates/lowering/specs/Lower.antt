@@ -6,11 +6,8 @@ use mathlib.Core.List.{List, [], _∷_}
 use lib.ListN.{getD, set}
 use lib.Dec.{eqb, ltb, lt→ltb, ltb→lt, eqb→eq, not-T}
 use Rattle.base.specs.Branch.{if}
-use Rattle.base.specs.Lists.{All}
-use Rattle.base.specs.BranchLaws.{if-elim, if-true, if-false, eq→eqb}
-use Rattle.base.specs.ListLaws.{all-getD-or}
+use Rattle.base.specs.BranchLaws.{if-true, if-false, eq→eqb}
 use Rattle.rules.specs.Merge.{sum}
-use Rattle.images.specs.Storable.{Octet}
 use Rattle.packing.specs.Replace.{countOf, argOf, valueOf}
 
 -- The depth of the i-th argument; of none that is there, 0.
@@ -58,22 +55,6 @@ module _ (ds : List ℕ) (x : ℕ) where
   pub over-some : (countOf x ≡ 0 → ⊥) → overIn ds x ≡ suc (deepest ds x)
   unfolding overIn
   over-some h = if-false (eqb (countOf x) 0) _ _ (not-T (eqb (countOf x) 0) (λ t. h (eqb→eq (countOf x) 0 t)))
-
-  arg-octet : All Octet ds → (i : ℕ) → argDepth ds x i < 256
-  unfolding argDepth
-  arg-octet a i = if-elim (λ n. n < 256) (ltb i (countOf x)) _ _ (λ _. all-getD-or Octet ds (argOf x i) 0 a (omega arith)) (λ _. omega arith)
-
-  pub deepest-octet : All Octet ds → deepest ds x < 256
-  unfolding deepest
-  deepest-octet a =
-      let a0 = arg-octet a 0 in
-      let a1 = arg-octet a 1 in
-      let a2 = arg-octet a 2 in
-      let a3 = arg-octet a 3 in
-      larger (larger a0 a1) (larger a2 a3)
-    where
-      larger : {a b : ℕ} → a < 256 → b < 256 → max a b < 256
-      larger {a} {b} p q = omega arith
 
   pub lowest-none : countOf x ≡ 0 → 0 ≡ lowest ds x
   unfolding lowest

@@ -1,5 +1,5 @@
 -- The two answers by document 01: a reading that gives a thing ends at a place, one that is refused has a number and a place.
-use mathlib.Core.Path.{_≡_, refl, sym, ap, _∙_}
+use mathlib.Core.Path.{_≡_, refl, ap}
 use Prim.Native.Nat.{ℕ, _≤_}
 use native.Mathlib.Omega.{arith}
 use Rattle.rules.specs.Reading.{Read, got, refused, giving}

@@ -1,12 +1,10 @@
 -- A check that follows a reading step by step: what the answer so far says of the whole, one law for each kind of step.
-use mathlib.Core.Path.{_≡_, refl, sym, ap, _∙_}
+use mathlib.Core.Path.{_≡_, ap}
 use Prim.Native.Nat.{ℕ}
 use mathlib.Core.Bool.{Bool, true, false}
 use Rattle.base.specs.Branch.{if}
-use Rattle.rules.specs.Reading.{Read, got, refused, andThen}
-use Rattle.numbers.specs.declared.Checked.{Checked}
+use Rattle.rules.specs.Reading.{Read, andThen}
 use Rattle.numbers.specs.declared.Checked.the-variants.{Ends, Refused}
-use Rattle.numbers.specs.declared.Value.{Value}
 use Rattle.numbers.specs.declared.Value.the-variants.{Is, Fault}
 use Rattle.numbers.specs.Answers.{checked, value, value-is, value-fault, checked-ends, checked-refused}
 

@@ -1,15 +1,14 @@
 -- A loop over things read one after another: what is left to read gives the answer of the whole.
 -- `i` of `n` are read and the next starts at `p`; one law for each turn and for the end.
-use mathlib.Core.Path.{_≡_, refl, sym, ap, _∙_}
-use Prim.Native.Nat.{ℕ, zero, suc, _+_, _-_, _≤_, _<_}
+use mathlib.Core.Path.{_≡_}
+use Prim.Native.Nat.{ℕ, suc, _+_, _-_, _≤_, _<_}
 use native.Mathlib.Omega.{arith}
-use mathlib.Core.List.{List, _∷_}
-use Rattle.rules.specs.Reading.{Read, got, refused, andThen, giving, many}
+use mathlib.Core.List.{_∷_}
+use Rattle.rules.specs.Reading.{Read, got, andThen, many}
 use Rattle.numbers.specs.declared.Checked.{Checked}
 use Rattle.numbers.specs.declared.Checked.the-variants.{Ends, Refused}
-use Rattle.numbers.specs.declared.Value.{Value}
 use Rattle.numbers.specs.declared.Value.the-variants.{Is, Fault}
-use Rattle.numbers.specs.Answers.{checked, value, checked-giving, value-is, value-fault, Ended, checked-ends, checked-refused}
+use Rattle.numbers.specs.Answers.{checked, value, checked-giving, value-is, value-fault, checked-ends, checked-refused}
 
 -- What is left after i of n, where the next one starts at p.
 unfoldable pub left : {A : Type 0} → ℕ → (ℕ → Read A) → ℕ → ℕ → Checked

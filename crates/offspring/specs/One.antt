@@ -1,24 +1,23 @@
 -- One child stored: the pool's state with it in the lowest free slot.
-use mathlib.Core.Path.{_≡_, refl, sym, ap, _∙_, subst}
+use mathlib.Core.Path.{_≡_, sym, ap, _∙_, subst}
 use Prim.Native.Nat.{ℕ, suc, _+_, _*_, _≤_, _<_}
 use native.Mathlib.Nat.{mul-suc, mul-le-mul-left}
 use native.Mathlib.Omega.{arith}
-use mathlib.Core.Bool.{Bool, true, false}
+use mathlib.Core.Bool.{Bool, false}
 use mathlib.Core.List.{List, [], _∷_}
 use lib.ListN.{length, getD, take}
-use Rattle.base.specs.Lists.{keep, from}
 use Rattle.rules.specs.Book.{Disjunct, completedDisjunct}
 use Rattle.rules.specs.Reading.{Bytes}
 use Rattle.rules.specs.Sheet.{Model, Limits}
 use Rattle.rules.specs.Pool.{State, free}
 use Rattle.rules.specs.Image.{poolBytes}
 use Rattle.rules.specs.Bound.{Bound}
-use Rattle.rules.specs.Child.{Child, child}
+use Rattle.rules.specs.Child.{child}
 use Rattle.rules.specs.Step.{withPlaced}
 use Rattle.child.specs.Whole.{Made}
 use Rattle.deriving.specs.Derived.{Parent, DisjunctHere, IsDerived}
 use Rattle.placing.specs.OneByOne.{theChild}
-use Rattle.lists.specs.Header.{unnamed, LowestFree, lowest-first, lowest-gone}
+use Rattle.lists.specs.Header.{LowestFree, lowest-first, lowest-gone}
 use Rattle.lists.specs.Moves.{Imaged, shows-free}
 use Rattle.adopting.specs.Slots.{Fitting, Adopted}
 

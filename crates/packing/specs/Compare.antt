@@ -63,14 +63,6 @@ pub three-ways {ℓ κ} : {A : Type ℓ} (P : A → Type κ) (x y : ℕ) (f g h 
 unfolding three
 three-ways P x y f g h p q r = ways (λ o. P (three o f g h)) x y p q r
 
-pub three-lt {ℓ} : {A : Type ℓ} (x y : ℕ) (f g h : Unit {0} → A) → x < y → three (compare x y) f g h ≡ f tt
-unfolding three
-three-lt x y f g h p = ap (λ o. three o f g h) (compare-lt x y p)
-
-pub three-eq {ℓ} : {A : Type ℓ} (x y : ℕ) (f g h : Unit {0} → A) → x ≡ y → three (compare x y) f g h ≡ g tt
-unfolding three
-three-eq x y f g h p = ap (λ o. three o f g h) (compare-eq x y p)
-
 pub three-gt {ℓ} : {A : Type ℓ} (x y : ℕ) (f g h : Unit {0} → A) → y < x → three (compare x y) f g h ≡ h tt
 unfolding three
 three-gt x y f g h p = ap (λ o. three o f g h) (compare-gt x y p)

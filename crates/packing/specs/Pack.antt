@@ -2,7 +2,7 @@
 -- A fact is packed as an entry of kind 0 with value 0. Key order is the order of the numbers of keys, which are those of
 -- entries / 256, as long as a symbol has one arity.
 use mathlib.Core.Path.{_≡_, refl, sym, ap, ap₂, _∙_}
-use Prim.Native.Nat.{ℕ, _+_, _-_, _*_, _/_, _^_, _≤_, _<_, compare}
+use Prim.Native.Nat.{ℕ, _+_, _-_, _*_, _≤_, _<_, compare}
 use native.Mathlib.Omega.{arith}
 use mathlib.Core.List.{List, [], _∷_, _++_}
 use mathlib.Core.Bool.{Bool}
@@ -147,6 +147,3 @@ fact-digits f = refl
 pub key-number : (x : Entry) → length (x .0 .args) ≤ 4 → number (keyBytes x) ≡ packEntry x
 unfolding packEntry packKey numberFrom
 key-number x h = ap number (key-digits x h)
-
-pub fact-number : (f : Fact) → length (f .args) ≤ 4 → number (factBytes f) ≡ packFact f
-fact-number f h = ap number (fact-digits f) ∙ key-number (factEntry f) h

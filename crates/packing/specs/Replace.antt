@@ -1,27 +1,19 @@
--- Digits of a packed entry: each read back, an entry told by them, and one element renamed to another in all of them.
-use mathlib.Core.Path.{_≡_, refl, sym, ap, _∙_, subst}
+-- Digits of a packed entry, each read back, and one element renamed to another in all of them.
+use mathlib.Core.Path.{_≡_, refl, sym, ap, _∙_}
 use Prim.Native.Nat.{ℕ, zero, suc, _+_, _-_, _*_, _/_, _%_, _^_, _<_}
 use native.Mathlib.Omega.{arith}
 use mathlib.Core.List.{map}
 use lib.ListN.{length, getD, length-map, List·getD-map}
-use lib.Dec.{T, isEq, eqb, eqb→eq}
+use lib.Dec.{eqb, eqb→eq}
 use Rattle.base.specs.BranchLaws.{if-elim}
 use Rattle.base.specs.ListLaws.{all-getD-or, all-map}
 use Rattle.rules.specs.Sheet.{key, Fact, Entry}
 use Rattle.rules.specs.Merge.{rename, renameEntry, renameFact}
-use Rattle.laws.specs.Tables.{key-eq}
 use Rattle.images.specs.Storable.{Octet, FewKey, ByteKey}
-use Rattle.packing.specs.Compare.{compare-eq}
 use Rattle.packing.specs.Digits.{numberFrom}
-use Rattle.packing.specs.Pack.{packKey, packEntry, packFact, factEntry, Fits, FitsEntry, key-order}
+use Rattle.packing.specs.Pack.{packKey, packEntry, packFact, factEntry, FitsEntry}
 
 -- ---- the digits
-
-abbrev pub kindOf : ℕ → ℕ
-kindOf x = x / 256 ^ 7
-
-abbrev pub symbolOf : ℕ → ℕ
-symbolOf x = x / 256 ^ 6 % 256
 
 abbrev pub countOf : ℕ → ℕ
 countOf x = x / 256 ^ 5 % 256
@@ -41,12 +33,6 @@ abbrev pub eight : (a b c d e f g h : ℕ) → ℕ
 eight a b c d e f g h = ((((((a * 256 + b) * 256 + c) * 256 + d) * 256 + e) * 256 + f) * 256 + g) * 256 + h
 
 module _ (a b c d e f g h : ℕ) (pb : b < 256) (pc : c < 256) (pd : d < 256) (pe : e < 256) (pf : f < 256) (pg : g < 256) (ph : h < 256) where
-  digit-kind : kindOf (eight a b c d e f g h) ≡ a
-  digit-kind = omega arith
-
-  digit-symbol : symbolOf (eight a b c d e f g h) ≡ b
-  digit-symbol = omega arith
-
   digit-count : countOf (eight a b c d e f g h) ≡ c
   digit-count = omega arith
 
@@ -86,12 +72,6 @@ module _ (x : Entry) (p : Eight x) where
   few-octet : length (x .0 .args) < 256
   few-octet = omega (arith, p .few)
 
-  pub kind-of : kindOf (packEntry x) ≡ x .0 .kind
-  kind-of = ap kindOf (pack-eight x) ∙ digit-kind _ _ _ _ _ _ _ _ (p .bytes .symbol) few-octet (octet-at 0) (octet-at 1) (octet-at 2) (octet-at 3) (p .bytes .value)
-
-  pub symbol-of : symbolOf (packEntry x) ≡ x .0 .symbol
-  symbol-of = ap symbolOf (pack-eight x) ∙ digit-symbol (x .0 .kind) _ _ _ _ _ _ _ (p .bytes .symbol) few-octet (octet-at 0) (octet-at 1) (octet-at 2) (octet-at 3) (p .bytes .value)
-
   pub count-of : countOf (packEntry x) ≡ length (x .0 .args)
   count-of = ap countOf (pack-eight x) ∙ digit-count (x .0 .kind) _ _ _ _ _ _ _ (p .bytes .symbol) few-octet (octet-at 0) (octet-at 1) (octet-at 2) (octet-at 3) (p .bytes .value)
 
@@ -110,20 +90,6 @@ module _ (x : Entry) (p : Eight x) where
   arg-of (suc (suc zero)) h = args-of .2
   arg-of (suc (suc (suc zero))) h = args-of .3
   arg-of (suc (suc (suc (suc i)))) h = absurd (omega arith)
-
--- ---- one to one
-
-pub pack-one : (x y : Entry) → Eight x → Eight y → packEntry x ≡ packEntry y → x ≡ y
-pack-one x y p q e =
-    let n : length (y .0 .args) ≡ length (x .0 .args) = sym (count-of y q) ∙ ap countOf (sym e) ∙ count-of x p in
-    let a : ℕ → ℕ → ℕ = λ _ _. length (x .0 .args) in
-    let fx : Fits a (x .0) = record { kind = p .bytes .kind; symbol = p .bytes .symbol; args = p .bytes .args; few = p .few; count = refl } in
-    let fy : Fits a (y .0) = record { kind = q .bytes .kind; symbol = q .bytes .symbol; args = q .bytes .args; few = q .few; count = n } in
-    let k : packKey (x .0) ≡ packKey (y .0) = sym (key-of x (p .bytes .value)) ∙ ap keyOf e ∙ key-of y (q .bytes .value) in
-    let o = key-order (x .0) (y .0) fx fy ∙ compare-eq (packKey (x .0)) (packKey (y .0)) k in
-    let ks : x .0 ≡ y .0 = key-eq (x .0) (y .0) (subst (λ r. T (isEq r)) (sym o) tt) in
-    let vs : x .1 ≡ y .1 = sym (value-of x (p .bytes .value)) ∙ ap valueOf e ∙ value-of y (q .bytes .value) in
-    λ i. (ks i, vs i)
 
 -- ---- renaming: an unused digit is 0 and no element that goes is 0
 

@@ -2,22 +2,18 @@
 -- slots: those that no list names.
 use mathlib.Core.Path.{_≡_, refl, sym, ap, ap₂, _∙_, subst}
 use Prim.Native.Nat.{ℕ, zero, suc, _+_, _≤_, _<_}
-use native.Mathlib.Nat.{le-refl, le-trans}
 use native.Mathlib.Omega.{arith}
 use mathlib.Core.Bool.{Bool, true, false, not, _||_}
-use mathlib.Core.List.{List, [], _∷_, _++_, map, append-assoc, append-nil}
-use lib.ListN.{length, set, getD, drop, length-append, length-set}
+use mathlib.Core.List.{List, [], _∷_, _++_, append-assoc}
+use lib.ListN.{length, set, getD, drop, length-set}
 use lib.Dec.{T, eqb, eqb→eq}
 use Rattle.base.specs.Branch.{if}
 use Rattle.base.specs.Lists.{All, mem, keep, from}
-use Rattle.base.specs.BranchLaws.{if-elim, decided}
-use Rattle.base.specs.ListLaws.{all-all}
-use Rattle.rules.specs.Sheet.{Sheet}
 use Rattle.rules.specs.Pool.{State, Scheduler, fifo, lifo, schedulerOf, used, free, changed}
 use Rattle.rules.specs.Child.{Child}
-use Rattle.rules.specs.Step.{Placed, placed, stored, openSlots, cutSlots, pushed, schedule, Answer, done, withPlaced}
+use Rattle.rules.specs.Step.{Placed, placed, stored, openSlots, cutSlots, pushed, schedule, done, withPlaced}
 use Rattle.pools.specs.Count.{hit, cnt, hit-elim, hit-self, hit-other, cnt-append, cnt-schedule, cnt-mem, not-mem-cnt, cnt-not-mem, cnt-all, from-once, from-has}
-use Rattle.pools.specs.Slots.{slotsOf, open-and-cut}
+use Rattle.pools.specs.Slots.{open-and-cut}
 
 -- ---- one after another
 

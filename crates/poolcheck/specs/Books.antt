@@ -1,15 +1,14 @@
 -- A pool for an accepted book: its names are those of the head, its sequents as many as the count; and the accepted lengths.
-use mathlib.Core.Path.{_≡_, refl, sym, ap, ap₂, _∙_, subst}
+use mathlib.Core.Path.{_≡_, sym, ap, ap₂, _∙_}
 use Prim.Native.Nat.{ℕ, zero, suc, _+_, _-_, _*_, _/_, _≤_, _<_}
-use native.Mathlib.Omega.{arith}
 use mathlib.Core.Bool.{Bool, true, false, _&&_}
-use mathlib.Core.List.{List, [], _∷_}
+use mathlib.Core.List.{List, []}
 use lib.ListN.{length}
-use lib.Dec.{T, leb, ltb, eqb, eqb→eq, leb→le}
+use lib.Dec.{T, leb, eqb, eqb→eq, leb→le}
 use Rattle.base.specs.Branch.{if}
 use Rattle.base.specs.BranchLaws.{and-l, and-r}
 use Rattle.rules.specs.Book.{Book, Names}
-use Rattle.rules.specs.Reading.{Bytes, num, Read, got, refused, many}
+use Rattle.rules.specs.Reading.{Bytes, num, Read, got, many}
 use Rattle.rules.specs.Sheet.{limits}
 use Rattle.rules.specs.Fire.{places}
 use Rattle.rules.specs.Pool.{strategyOf}

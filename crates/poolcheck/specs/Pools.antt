@@ -1,46 +1,40 @@
 -- A pool: the tests on its bytes, frame and slots, come to the definition: the bytes are the image of what they say, and that is sound
 -- for the book. A listed slot is counted by the lists; what each slot must be is `Tidy`.
 use mathlib.Core.Path.{_≡_, refl, sym, ap, ap₂, _∙_, subst}
-use Prim.Native.Nat.{ℕ, zero, suc, _+_, _-_, _*_, _≤_, _<_, min}
+use Prim.Native.Nat.{ℕ, zero, suc, _+_, _-_, _*_, _≤_, _<_}
 use native.Mathlib.Decide.{decLe}
 use native.Mathlib.Omega.{arith}
-use mathlib.Core.Bool.{Bool, true, false, not, _&&_}
-use mathlib.Core.Logic.{_⊎_, inl, inr}
-use mathlib.Core.List.{List, [], _∷_, _++_, map, append-nil}
-use lib.ListN.{length, getD, take, drop, replicate, length-append, length-take, length-drop, length-map, take-append-drop, List·getD-eq-default}
+use mathlib.Core.Bool.{false, _&&_}
+use mathlib.Core.List.{List, [], _++_, map, append-nil}
+use lib.ListN.{length, getD, take, drop, replicate, length-drop, length-map, take-append-drop, List·getD-eq-default}
 use lib.Seq.{take-all}
-use lib.Dec.{T, T-not, ltb, leb, eqb, eqb→eq, ltb→lt, lt→ltb}
+use lib.Dec.{T, ltb, eqb, eqb→eq, ltb→lt, lt→ltb}
 use Rattle.base.specs.Branch.{if}
-use Rattle.base.specs.Lists.{All, all, flat, from, equal}
-use Rattle.base.specs.BranchLaws.{if-elim, and-l, and-r, and-i, eq→eqb, neqb→ne, decided}
+use Rattle.base.specs.Lists.{All, flat, from, equal}
+use Rattle.base.specs.BranchLaws.{if-elim, and-l, and-r, and-i, eq→eqb, neqb→ne}
 use Rattle.base.specs.ListLaws.{map-map, all-map, all-unmap, equal-eq, equal-self}
 use Rattle.pools.specs.Count.{cnt, cnt-append, all-cnt, from-all, all-from}
 use Rattle.pools.specs.Tidy.{Tidy, Listed, placesOf, tidy, tidy-sound}
 use Rattle.rules.specs.Book.{Names, Book}
 use Rattle.rules.specs.Reading.{Bytes, num}
-use Rattle.rules.specs.Sheet.{Sheet, blank, Limits, limits}
-use Rattle.rules.specs.Fire.{places}
-use Rattle.rules.specs.Pool.{State, schedulers, strategies, strategyOf, numbers, sheetAt, used}
-use Rattle.rules.specs.Image.{poolHead, poolBytes, headSize, sheetSize, slotsIn, part, parts, listIn, sheetIn, sheetBytes, poolIn}
+use Rattle.rules.specs.Sheet.{Sheet, blank, limits}
+use Rattle.rules.specs.Pool.{State, schedulers, strategies, numbers, sheetAt, used}
+use Rattle.rules.specs.Image.{poolHead, poolBytes, headSize, sheetSize, slotsIn, part, parts, sheetIn, sheetBytes, poolIn}
 use Rattle.rules.specs.Sound.{soundSheet, soundState, sound}
 use Rattle.images.specs.Storable.{small-limits, blank-storable}
 use Rattle.images.specs.Sheets.{sheet-back, blank-zero}
 use Rattle.images.specs.Pools.{slots-in}
-use Rattle.sheetparts.specs.Loops.{upTo, every, every-at, at-every}
-use Rattle.sheetparts.specs.Tests.{byteAt, zeros, sheetSound, limited}
+use Rattle.sheetparts.specs.Loops.{upTo, every-at, at-every}
+use Rattle.sheetparts.specs.Tests.{byteAt, zeros, sheetSound}
 use Rattle.sheetcheck.specs.Regions.{join-split, part-length, part-at, parts-row, table-parts, parts-table, zeros-part, part-zeros}
-use Rattle.sheetcheck.specs.Tables.{both-of, of-both, all-at}
+use Rattle.sheetcheck.specs.Tables.{both-of, of-both}
 use Rattle.sheetcheck.specs.Depths.{same-test}
 use Rattle.sheetcheck.specs.Images.{image-size}
 use Rattle.poolparts.specs.Tests.{nextOf, slotAt, inRange, rowAt, listed, startOf, otherAt, differs, heldRight, slotRight, slotsRight, frameRight}
 use Rattle.poolparts.specs.Ways.{fair-limits}
-use Rattle.poolcheck.specs.Heads.{ListSays, Frame, frame-says, says-frame, list-row, head-size, frame-image, image-frame}
+use Rattle.poolcheck.specs.Heads.{Frame, frame-says, says-frame, list-row, head-size, frame-image, image-frame}
 
 -- ---- small steps
-
-slot-size : sheetSize limits ≡ 2128
-unfolding sheetSize limits
-slot-size = refl
 
 getD-row : {A : Type 0} (f : ℕ → A) (a k i : ℕ) (d : A) → i < k → getD (map f (from a k)) i d ≡ f (a + i)
 unfolding from

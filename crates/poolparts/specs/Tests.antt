@@ -1,9 +1,8 @@
 -- The tests of a pool, on its bytes: what the code computes, test by test. A list is named by its place and its count; a slot is
 -- listed as often as the three lists name it.
-use Prim.Native.Nat.{ℕ, zero, suc, _+_, _-_, _*_}
+use Prim.Native.Nat.{ℕ, _+_, _-_, _*_}
 use mathlib.Core.Bool.{Bool, true, false}
 use mathlib.Core.List.{List, map}
-use lib.ListN.{length}
 use lib.Dec.{ltb, eqb}
 use Rattle.base.specs.Branch.{if}
 use Rattle.pools.specs.Count.{cnt}

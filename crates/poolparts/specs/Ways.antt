@@ -1,9 +1,8 @@
 -- The ways out of the tests of a pool, one law for each.
-use mathlib.Core.Path.{_≡_, refl, sym, ap, ap₂, _∙_, subst}
+use mathlib.Core.Path.{_≡_, refl, sym, ap, _∙_}
 use Prim.Native.Nat.{ℕ, zero, suc, _+_, _-_, _≤_, _<_, max}
 use native.Mathlib.Omega.{arith}
-use native.Mathlib.Numerals.{add-one}
-use mathlib.Core.List.{List, [], _∷_, map}
+use mathlib.Core.List.{map}
 use Rattle.pools.specs.Count.{hit, cnt, hit-self, hit-other}
 use Rattle.rules.specs.Fire.{places}
 use Rattle.rules.specs.Pool.{strategyOf}

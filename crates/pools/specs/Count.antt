@@ -1,17 +1,17 @@
 -- How often a number stands in a list. With counts, that lists name a slot once, and that a list was rearranged, is arithmetic.
-use mathlib.Core.Path.{_≡_, refl, sym, ap, _∙_, subst}
+use mathlib.Core.Path.{_≡_, refl, sym, subst}
 use Prim.Native.Nat.{ℕ, zero, suc, _+_, _≤_, _<_}
 use native.Mathlib.Nat.{le-refl}
 use native.Mathlib.Omega.{arith}
-use mathlib.Core.Bool.{Bool, true, false, not, _&&_}
-use mathlib.Core.Logic.{_⊎_, inl, inr, Lift}
-use mathlib.Core.List.{List, [], _∷_, _++_, map}
+use mathlib.Core.Bool.{Bool, not}
+use mathlib.Core.Logic.{_⊎_, inl, inr}
+use mathlib.Core.List.{List, [], _∷_, _++_}
 use lib.ListN.{length}
-use lib.Dec.{T, T-not, not-T, eqb, eqb→eq, eqb-refl}
+use lib.Dec.{T, T-not, not-T, eqb, eqb→eq}
 use Rattle.base.specs.Branch.{if}
 use Rattle.base.specs.Lists.{All, Some, mem, distinct, keep, from}
 use Rattle.base.specs.BranchLaws.{if-elim, and-l, and-r, and-i, neqb→ne, decided}
-use Rattle.base.specs.ListLaws.{In, mem-in, in-mem, some-some}
+use Rattle.base.specs.ListLaws.{In, mem-in, in-mem}
 use Rattle.rules.specs.Pool.{Scheduler, fifo, lifo}
 use Rattle.rules.specs.Step.{pushed, schedule}
 

@@ -1,24 +1,22 @@
 -- A tidy state stays tidy when a slot changes its list, when one is given up, and when new sheets go into free slots.
 use mathlib.Core.Path.{_≡_, refl, sym, ap, _∙_, subst}
-use Prim.Native.Nat.{ℕ, zero, suc, _+_, _≤_, _<_}
-use native.Mathlib.Nat.{le-refl, le-trans}
+use Prim.Native.Nat.{ℕ, _+_, _≤_, _<_}
+use native.Mathlib.Nat.{le-trans}
 use native.Mathlib.Decide.{decLe, ℕ-discrete}
 use native.Mathlib.Omega.{arith}
-use mathlib.Core.Bool.{Bool, true, false, not}
-use mathlib.Core.Logic.{_⊎_, inl, inr, Lift}
-use mathlib.Core.List.{List, [], _∷_, _++_, map}
-use lib.ListN.{length, getD, set, length-set}
+use mathlib.Core.List.{List, _++_}
+use lib.ListN.{length, getD, length-set}
 use lib.Seq.{getD-set-same, getD-set-other}
 use lib.Dec.{T}
 use Rattle.base.specs.Lists.{All, Some}
 use Rattle.base.specs.ListLaws.{all-all, all-both, all-map, all-unmap, some-all, some-elim}
 use Rattle.rules.specs.Book.{Book}
-use Rattle.rules.specs.Sheet.{Model, Sheet, blank, Limits}
+use Rattle.rules.specs.Sheet.{Sheet, blank, Limits}
 use Rattle.rules.specs.Fire.{places}
 use Rattle.rules.specs.Pool.{State, schedulers, strategies, strategyOf, numbers, sheetAt, used, changed, freed, schedulerOf}
 use Rattle.rules.specs.Sound.{soundSheet}
-use Rattle.rules.specs.Step.{Placed, stored, openSlots, cutSlots, schedule, withPlaced, done}
-use Rattle.pools.specs.Count.{hit, cnt, hit-elim, hit-self, hit-other, cnt-append, cnt-schedule, cnt-all, all-cnt}
+use Rattle.rules.specs.Step.{Placed, openSlots, cutSlots, schedule, withPlaced, done}
+use Rattle.pools.specs.Count.{hit, cnt, hit-self, hit-other, cnt-append, cnt-schedule, cnt-all, all-cnt}
 use Rattle.pools.specs.Slots.{slotsOf, stored-length, stored-other, stored-new, open-and-cut}
 use Rattle.pools.specs.Tidy.{Listed, placesOf, Tidy}
 

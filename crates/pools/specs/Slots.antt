@@ -1,23 +1,22 @@
 -- Slots: what storing children leaves and what it puts where; that free slots are free; that the children always have room.
 use mathlib.Core.Path.{_≡_, refl, sym, ap, _∙_, subst}
-use Prim.Native.Nat.{ℕ, zero, suc, _+_, _≤_, _<_}
+use Prim.Native.Nat.{ℕ, suc, _+_, _≤_, _<_}
 use native.Mathlib.Nat.{le-refl, le-trans}
 use native.Mathlib.Omega.{arith}
 use mathlib.Core.Bool.{Bool, true, false, not}
-use mathlib.Core.Logic.{_⊎_, inl, inr, Lift}
+use mathlib.Core.Logic.{inl, inr}
 use mathlib.Core.List.{List, [], _∷_, _++_, map}
 use lib.ListN.{length, getD, set, length-set}
 use lib.Seq.{getD-set-same, getD-set-other}
-use lib.Dec.{T, T-not, not-T}
+use lib.Dec.{T, not-T}
 use Rattle.base.specs.Branch.{if}
 use Rattle.base.specs.Lists.{All, Some, mem, keep, from}
-use Rattle.base.specs.BranchLaws.{if-elim}
 use Rattle.base.specs.ListLaws.{all-all, all-both, some-some}
 use Rattle.rules.specs.Sheet.{Model, Sheet, blank}
 use Rattle.rules.specs.Child.{Child}
 use Rattle.rules.specs.Pool.{State, used, free, changed, freed}
 use Rattle.rules.specs.Step.{Placed, placed, stored, openSlots, cutSlots, withoutBase}
-use Rattle.pools.specs.Count.{hit, cnt, hit-elim, hit-self, hit-other, cnt-append, cnt-in, in-cnt, mem-cnt, cnt-mem, not-mem-cnt, cnt-not-mem, from-all, from-once, from-has, keep-le, keep-all, keep-more, cnt-all, all-cnt}
+use Rattle.pools.specs.Count.{hit, cnt, hit-self, cnt-in, not-mem-cnt, cnt-not-mem, from-all, from-once, from-has, keep-le, keep-all, keep-more, cnt-all, all-cnt}
 
 abbrev pub slotsOf : List Placed → List ℕ
 slotsOf new = map (λ (x : Placed). x .slot) new

@@ -1,24 +1,22 @@
 -- A state that is sound for a book, as statements about each listed slot; the test `soundState` says just that.
 use mathlib.Core.Path.{_≡_, refl, sym, ap, _∙_, subst}
-use Prim.Native.Nat.{ℕ, zero, suc, _+_, _≤_, _<_}
-use native.Mathlib.Nat.{le-refl, le-trans}
+use Prim.Native.Nat.{ℕ, suc, _+_, _≤_, _<_}
 use native.Mathlib.Decide.{decLe}
 use native.Mathlib.Omega.{arith}
-use mathlib.Core.Bool.{Bool, true, false, not, _&&_, _||_}
-use mathlib.Core.Logic.{_⊎_, inl, inr, Lift}
-use mathlib.Core.List.{List, [], _∷_, _++_, map}
-use lib.ListN.{length, getD, List·getD-eq-default}
+use mathlib.Core.Bool.{Bool, not, _&&_, _||_}
+use mathlib.Core.Logic.{_⊎_, inl, inr}
+use mathlib.Core.List.{List, [], _∷_, map}
+use lib.ListN.{length, List·getD-eq-default}
 use lib.Dec.{T, T-not, not-T, leb, ltb, eqb, eqb→eq, leb→le, le→leb, ltb→lt, lt→ltb}
-use Rattle.base.specs.Branch.{if}
 use Rattle.base.specs.Lists.{All, Some, all, mem, distinct, from, isNil}
 use Rattle.base.specs.BranchLaws.{and-l, and-r, and-i, or-is, or-l, or-r, decided}
 use Rattle.base.specs.ListLaws.{In, mem-in, in-mem, all-of, of-all, all-map, all-unmap, some-some, some-elim, map-map}
-use Rattle.rules.specs.Book.{Names, Book}
-use Rattle.rules.specs.Sheet.{Entry, Fact, Model, Sheet, empty, blank, Limits}
+use Rattle.rules.specs.Book.{Book}
+use Rattle.rules.specs.Sheet.{Sheet, empty, blank, Limits}
 use Rattle.rules.specs.Fire.{places}
 use Rattle.rules.specs.Pool.{State, schedulers, strategies, strategyOf, numbers, sheetAt, sheetsAt, used}
 use Rattle.rules.specs.Sound.{soundSheet, isBlank, soundLists, soundNumbers, soundState}
-use Rattle.pools.specs.Count.{hit, cnt, hit-elim, hit-self, mem-cnt, cnt-mem, not-mem-cnt, cnt-not-mem, all-cnt, cnt-all, distinct-cnt, cnt-distinct, all-from, from-all}
+use Rattle.pools.specs.Count.{cnt, hit-elim, hit-self, mem-cnt, not-mem-cnt, all-cnt, cnt-all, distinct-cnt, cnt-distinct, all-from, from-all}
 
 -- Some list names the slot.
 abbrev pub Listed : State → ℕ → Type 0

@@ -4,7 +4,7 @@ use Prim.Native.Nat.{ℕ, suc, _≤_, _<_, compare}
 use native.Mathlib.Omega.{arith}
 use native.Mathlib.Decide.{decLe}
 use mathlib.Core.List.{List, [], _∷_, _++_, map}
-use lib.ListN.{length, length-map}
+use lib.ListN.{length}
 use Rattle.base.specs.Branch.{three}
 use Rattle.base.specs.Lists.{All}
 use Rattle.base.specs.ListLaws.{all-all, all-append}

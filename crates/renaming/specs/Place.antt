@@ -1,6 +1,6 @@
 -- One element renamed at one place of an entry. A place is told by its weight: the value's is 1, the arguments' are 256 and its
 -- powers. An entry that is changed gets lower, and of two that are changed the lower stays the lower.
-use mathlib.Core.Path.{_≡_, refl, sym, ap, _∙_, subst}
+use mathlib.Core.Path.{_≡_, refl, sym, ap, _∙_}
 use Prim.Native.Nat.{ℕ, _+_, _-_, _*_, _/_, _%_, _^_, _≤_, _<_}
 use native.Mathlib.Omega.{arith}
 use native.Mathlib.Nat.{le-trans, mul-le-mul-right, div-mul-le-self}

@@ -1,15 +1,14 @@
 -- One element renamed in a table in order, at one place and at all: the table is in order again.
 use mathlib.Core.Path.{_≡_, sym, ap, ap₂, _∙_, subst}
-use Prim.Native.Nat.{ℕ, _-_, _≤_, _<_}
+use Prim.Native.Nat.{ℕ, _-_, _<_}
 use mathlib.Core.List.{List, _++_, map}
-use lib.ListN.{take}
 use Rattle.base.specs.ListLaws.{map-map, map-agree, all-any}
 use Rattle.rules.specs.Image.{part}
 use Rattle.packing.specs.Replace.{replaced}
 use Rattle.renaming.specs.Order.{orderIn, Sorted, order-sorts, order-through}
-use Rattle.renaming.specs.Place.{replacedAt, Lowers, Keeps, at-lowers, at-keeps, all-places}
+use Rattle.renaming.specs.Place.{replacedAt, at-lowers, at-keeps, all-places}
 use Rattle.renaming.specs.Windows.{Elsewhere, elsewhere-then, elsewhere-table}
-use Rattle.renaming.specs.Parting.{staying, going, parted-order, parted-sorted, Parted}
+use Rattle.renaming.specs.Parting.{parted-order, parted-sorted, Parted}
 use Rattle.renaming.specs.Bringing.{Stayed, Gone, Brought}
 
 -- The table in the n entries from a on went through a function and is in order; n entries from b on were written over.

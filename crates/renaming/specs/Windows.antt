@@ -1,12 +1,11 @@
 -- Two windows of one list, the table's and a spare one, that do not meet: what is written into them, and all else kept.
 use mathlib.Core.Path.{_≡_, refl, _∙_}
-use Prim.Native.Nat.{ℕ, _+_, _≤_, _<_}
-use native.Mathlib.Omega.{arith}
+use Prim.Native.Nat.{ℕ, _+_, _≤_}
 use mathlib.Core.Logic.{_⊎_, inl, inr}
 use mathlib.Core.List.{List}
-use lib.ListN.{length, set}
+use lib.ListN.{length}
 use Rattle.rules.specs.Image.{part}
-use Rattle.images.specs.Kept.{Kept, kept-set, kept-before, kept-behind}
+use Rattle.images.specs.Kept.{Kept, kept-before, kept-behind}
 
 -- The n entries from a on and the m entries from c on do not meet.
 abbrev pub Apart : (a n c m : ℕ) → Type 0

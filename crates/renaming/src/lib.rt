@@ -3,7 +3,7 @@
 // A place costs two moves for each entry at most. The table is n entries of a slice from a on; n entries from b on are spare.
 ghost use mathlib.Core.Path.{_≡_};
 ghost use Prim.Native.Nat.{_+_, _-_, _≤_, _<_};
-ghost use lib.ListN.{length, take};
+ghost use lib.ListN.{length};
 ghost use Rattle.rules.specs.Image.{part};
 ghost use Rattle.packing.specs.Replace.{replaced};
 ghost use Rattle.renaming.specs.Order.{Sorted};

@@ -1,9 +1,8 @@
 -- The rule book as data (01, "The rule book"): what is typed, in the order in which it is typed.
 -- What the reader appends to a disjunct is a function of it (`completed`), so that a writer can give the bytes back.
 use Prim.Native.Nat.{ℕ, suc, _+_}
-use mathlib.Core.Bool.{Bool, true, false, _||_}
+use mathlib.Core.Bool.{Bool, false, _||_}
 use mathlib.Core.List.{List, [], _∷_, _++_, map}
-use lib.ListN.{length}
 use lib.Dec.{eqb}
 use Rattle.base.specs.Branch.{if}
 use Rattle.base.specs.Lists.{any}

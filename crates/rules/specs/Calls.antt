@@ -2,8 +2,8 @@
 -- Each promise is one relation between a call's inputs and its outcome: what the contract of the exported function says, by name.
 use mathlib.Core.Path.{_≡_}
 use Prim.Native.Nat.{ℕ, zero, suc, _+_, _*_}
-use mathlib.Core.Bool.{Bool, true, false, not, _&&_, _||_}
-use mathlib.Core.List.{List, [], _∷_, _++_}
+use mathlib.Core.Bool.{Bool, not, _&&_, _||_}
+use mathlib.Core.List.{_++_}
 use lib.ListN.{length, drop}
 use lib.Dec.{leb, ltb, eqb}
 use Rattle.base.specs.Branch.{if, caseL}
@@ -12,7 +12,7 @@ use Rattle.rules.specs.Reading.{Bytes, caseRead, readBook}
 use Rattle.rules.specs.Sheet.{limits}
 use Rattle.rules.specs.Bound.{Bound, unbounded, domainSize, depthPure, depthReuse}
 use Rattle.rules.specs.Pool.{State, schedulers, strategies, opened, sheetAt}
-use Rattle.rules.specs.Step.{Answer, step, Ran, run, lists, listOf, taken}
+use Rattle.rules.specs.Step.{step, run, lists, listOf, taken}
 use Rattle.rules.specs.Image.{mostSlots, headSize, sheetSize, slotsIn, sheetBytes, poolBytes, poolIn}
 use Rattle.rules.specs.Sound.{sound}
 

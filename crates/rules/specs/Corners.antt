@@ -1,14 +1,13 @@
 -- The one table of computed examples: the P corners of document 01, the corner for lowered depths, and those that the must-fail
 -- edits of this crate need. Each case is a run from one waiting sheet; `corners` says that all come out as the table has them.
 use mathlib.Core.Path.{_≡_, refl}
-use Prim.Native.Nat.{ℕ, zero, suc}
-use mathlib.Core.Bool.{Bool, true, false}
-use mathlib.Core.List.{List, [], _∷_, _++_, map}
+use Prim.Native.Nat.{ℕ}
+use mathlib.Core.List.{List, [], _∷_, map}
 use lib.ListN.{replicate}
 use Rattle.base.specs.Branch.{if, caseO, caseL, three, order}
 use Rattle.base.specs.Lists.{mem, without, firsts, keep, firstOf, from, entries, flat}
-use Rattle.rules.specs.Book.{Term, var, con, app, Terms, nil, cons, Literal, fact, same, Origin, Disjunct, Sequent, Book, inTerm, inLiteral, appended, completedDisjunct, completed, rules}
-use Rattle.rules.specs.Sheet.{Key, key, Fact, rel, Entry, Model, Sheet, Limits, limits, empty, blank, find, holds, insertKey, insertFact, domain, known}
+use Rattle.rules.specs.Book.{Term, var, con, app, nil, cons, Literal, fact, same, Disjunct, Sequent, inTerm, inLiteral, appended, completedDisjunct, completed}
+use Rattle.rules.specs.Sheet.{key, Fact, rel, Entry, Model, Limits, limits, empty, blank, find, holds, insertKey, insertFact, domain, known}
 use Rattle.rules.specs.Look.{originMeaning, bodyMeanings, headMeanings, lookMeaning, look, observed}
 use Rattle.rules.specs.Fire.{choices, bodyObserved, disjunctObserved, headObserved, fires, numbered, firing, visits, placeAfter}
 use Rattle.rules.specs.Bound.{Bound, unbounded, domainSize, depthPure, depthReuse, admits, depthOver, depthAt, depthMeaning, depth, termsOf, admitted}

@@ -1,10 +1,10 @@
 -- Which sequent fires, at which choice (01, "How a step goes"; `strategy.rs` and `evaluate` in the Rust).
 use Prim.Native.Nat.{ℕ, zero, suc, _%_, max}
-use mathlib.Core.Bool.{Bool, true, false, not, _&&_}
+use mathlib.Core.Bool.{Bool, not, _&&_}
 use mathlib.Core.Option.{Option, none, some}
 use mathlib.Core.List.{List, [], _∷_, _++_, map}
-use lib.ListN.{length, take, drop}
-use Rattle.base.specs.Branch.{if, caseO}
+use lib.ListN.{take, drop}
+use Rattle.base.specs.Branch.{caseO}
 use Rattle.base.specs.Lists.{all, any, flat, firstOf}
 use Rattle.rules.specs.Book.{Disjunct, Sequent}
 use Rattle.rules.specs.Sheet.{Model, domain}

@@ -3,9 +3,9 @@
 use Prim.Native.Nat.{ℕ, zero, suc, _+_, _-_, _*_, _/_, _%_, min}
 use mathlib.Core.List.{List, [], _∷_, _++_, map}
 use lib.ListN.{length, getD, take, drop, replicate}
-use Rattle.base.specs.Lists.{flat, from}
+use Rattle.base.specs.Lists.{flat}
 use Rattle.rules.specs.Reading.{Bytes, num}
-use Rattle.rules.specs.Sheet.{Key, key, Fact, rel, Entry, Model, Sheet, Limits}
+use Rattle.rules.specs.Sheet.{key, Fact, rel, Entry, Sheet, Limits}
 use Rattle.rules.specs.Pool.{State}
 
 -- ---- writing

@@ -1,6 +1,6 @@
 -- Looking up a term, and what is observed (01, "How a step goes"; `element_ref` and `is_observed` in the Rust).
 use Prim.Native.Nat.{ℕ}
-use mathlib.Core.Bool.{Bool, true, false}
+use mathlib.Core.Bool.{Bool, false}
 use mathlib.Core.Option.{Option, none, some}
 use mathlib.Core.List.{List, [], _∷_, _++_, map}
 use lib.ListN.{getD}

@@ -1,12 +1,10 @@
 -- Merging (01, "How a step goes"; `merge`, `reduce_rewrites`, `reduce_facts` and `lower` in the Rust).
 use Prim.Native.Nat.{ℕ, zero, suc, _+_, max, min, compare, Ordering, Ordering·lt, Ordering·gt}
-use mathlib.Core.Bool.{Bool, true, false}
-use mathlib.Core.Option.{Option, none, some}
-use mathlib.Core.List.{List, [], _∷_, _++_, map}
+use mathlib.Core.List.{List, [], _∷_, map}
 use lib.ListN.{length, getD, set}
 use lib.Dec.{eqb}
 use Rattle.base.specs.Branch.{if, caseO, three}
-use Rattle.rules.specs.Sheet.{Key, key, Fact, rel, Entry, Model, keyOrder, find, insertKey, insertFact}
+use Rattle.rules.specs.Sheet.{key, Fact, rel, Entry, Model, keyOrder, find, insertKey, insertFact}
 use Rattle.rules.specs.Bound.{depthOver, History}
 
 -- s survives, l goes.

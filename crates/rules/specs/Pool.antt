@@ -1,10 +1,9 @@
 -- The pool's state (01, "The pool"): settings, the next model number, three lists of slots, and the slots.
 -- A slot that no list names is free and holds the blank sheet.
 use Prim.Native.Nat.{ℕ, zero, suc}
-use mathlib.Core.Bool.{Bool, true, false, not}
+use mathlib.Core.Bool.{not}
 use mathlib.Core.List.{List, [], _∷_, _++_, map}
 use lib.ListN.{length, getD, set, replicate}
-use Rattle.base.specs.Branch.{if}
 use Rattle.base.specs.Lists.{mem, keep, from}
 use Rattle.rules.specs.Sheet.{Sheet, blank}
 use Rattle.rules.specs.Fire.{Strategy, linear, fair}

@@ -1,7 +1,7 @@
 -- Bytes read into a book (01, "The rule book" and "Refusal numbers" 1 to 10). The first fault in byte order decides, since the
 -- numbers are read one after another; at one number 2 comes before its value's fault. A refusal carries the place of its fault.
 use Prim.Native.Nat.{ℕ, zero, suc, _+_, _*_}
-use mathlib.Core.Bool.{Bool, true, false, _&&_}
+use mathlib.Core.Bool.{_&&_}
 use mathlib.Core.List.{List, [], _∷_}
 use lib.ListN.{length, getD}
 use lib.Dec.{leb, ltb, eqb}

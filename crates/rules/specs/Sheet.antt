@@ -1,10 +1,9 @@
 -- Sheets (01, "The pool" and "How a step goes"): keys with values and facts in rising order, the domain, looking a key up.
-use Prim.Native.Nat.{ℕ, suc, Ordering, _≤_, _<_}
+use Prim.Native.Nat.{ℕ, Ordering}
 use mathlib.Core.Bool.{Bool, true, false}
 use mathlib.Core.Option.{Option, none, some}
 use mathlib.Core.List.{List, [], _∷_, map}
-use lib.Dec.{isEq}
-use Rattle.base.specs.Branch.{if, three, order}
+use Rattle.base.specs.Branch.{three, order}
 use Rattle.base.specs.Lists.{mem, firsts}
 
 -- Kinds in key order: 1 constant, 2 application, 3 constant witness, 4 function witness.

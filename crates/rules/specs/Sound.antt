@@ -1,5 +1,5 @@
 -- When a pool is sound for a book (01, "The pool"), clause by clause, as a test.
-use Prim.Native.Nat.{ℕ, zero, suc, min, Ordering}
+use Prim.Native.Nat.{ℕ, min, Ordering}
 use mathlib.Core.Bool.{Bool, true, false, _&&_, _||_}
 use mathlib.Core.Option.{Option, none, some}
 use mathlib.Core.List.{List, [], _∷_, map}
@@ -9,7 +9,7 @@ use Rattle.base.specs.Branch.{if, caseO, isLt}
 use Rattle.base.specs.Lists.{all, mem, distinct, from, isNil, equal}
 use Rattle.rules.specs.Book.{Names, Book}
 use Rattle.rules.specs.Reading.{Bytes}
-use Rattle.rules.specs.Sheet.{Key, keyOrder, Fact, factOrder, Entry, Model, Sheet, known, Limits}
+use Rattle.rules.specs.Sheet.{keyOrder, Fact, factOrder, Entry, Model, Sheet, known, Limits}
 use Rattle.rules.specs.Fire.{places}
 use Rattle.rules.specs.Bound.{depthOver}
 use Rattle.rules.specs.Pool.{State, schedulers, strategies, strategyOf, numbers, sheetAt, sheetsAt, used}

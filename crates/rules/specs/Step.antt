@@ -1,16 +1,15 @@
 -- A step, a run and a take on the pool's state (01, "How a step goes" and "Refusal numbers" 14 to 17; `chase_step` and
 -- `chase_all` in the Rust).
 use Prim.Native.Nat.{ℕ, zero, suc, _+_}
-use mathlib.Core.Bool.{Bool, true, false}
-use mathlib.Core.Option.{Option, none, some}
+use mathlib.Core.Bool.{Bool}
 use mathlib.Core.List.{List, [], _∷_, _++_, map}
 use lib.ListN.{length, set}
 use lib.Dec.{ltb, eqb}
 use Rattle.base.specs.Branch.{if, caseO, caseL}
 use Rattle.base.specs.Lists.{any, isNil}
 use Rattle.rules.specs.Book.{Sequent}
-use Rattle.rules.specs.Sheet.{Model, Sheet, blank, Limits}
-use Rattle.rules.specs.Fire.{Strategy, visits, placeAfter, Firing, firing}
+use Rattle.rules.specs.Sheet.{Sheet, Limits}
+use Rattle.rules.specs.Fire.{visits, placeAfter, firing}
 use Rattle.rules.specs.Bound.{Bound}
 use Rattle.rules.specs.Child.{Child, child}
 use Rattle.rules.specs.Pool.{State, Scheduler, fifo, lifo, schedulerOf, strategyOf, numbers, sheetAt, free, changed, freed}

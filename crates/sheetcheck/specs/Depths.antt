@@ -1,19 +1,19 @@
 -- Elements by their keys: the least depth that is kept as a number tells the least of the definitions, and whether some key yields
 -- the element.
-use mathlib.Core.Path.{_≡_, refl, sym, ap, ap₂, _∙_, subst}
-use Prim.Native.Nat.{ℕ, zero, suc, _+_, _≤_, _<_, min}
+use mathlib.Core.Path.{_≡_, refl, sym, ap, ap₂, _∙_}
+use Prim.Native.Nat.{ℕ, _≤_, min}
 use native.Mathlib.Omega.{arith}
 use mathlib.Core.Bool.{Bool, true, false, not}
 use mathlib.Core.Logic.{_⊎_, inl, inr}
 use mathlib.Core.Option.{Option, none, some}
 use mathlib.Core.List.{List, [], _∷_, map}
-use lib.ListN.{length, getD}
-use lib.Dec.{T, not-T, ltb, eqb, eqb→eq}
-use borrow.Author.Tests.{lt-ltb, le-ltb, eq-eqb, ne-eqb}
+use lib.ListN.{getD}
+use lib.Dec.{T, ltb, eqb, eqb→eq}
+use borrow.Author.Tests.{eq-eqb, ne-eqb}
 use Rattle.base.specs.Branch.{if, caseO}
-use Rattle.base.specs.Lists.{All, Some, mem, firsts}
-use Rattle.base.specs.BranchLaws.{decided, neqb→ne, eq→eqb}
-use Rattle.base.specs.ListLaws.{In, mem-in, in-mem, all-in, all-mem, firsts-all, firsts-some}
+use Rattle.base.specs.Lists.{All, firsts}
+use Rattle.base.specs.BranchLaws.{decided, neqb→ne}
+use Rattle.base.specs.ListLaws.{In, in-mem, all-in, all-mem, firsts-all, firsts-some}
 use Rattle.rules.specs.Sheet.{Entry, Model, domain, known}
 use Rattle.rules.specs.Bound.{depthOver}
 use Rattle.rules.specs.Sound.{least, depthRight}

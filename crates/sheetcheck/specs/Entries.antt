@@ -1,19 +1,17 @@
 -- An entry of eight bytes: what is read of it, when it is the image of that, and its key as a number. One law serves keys and facts:
 -- a fact is an entry of kind 0 and value 0.
 use mathlib.Core.Path.{_≡_, refl, sym, ap, ap₂, _∙_, subst}
-use Prim.Native.Nat.{ℕ, zero, suc, _+_, _-_, _*_, _≤_, _<_, min}
+use Prim.Native.Nat.{ℕ, _+_, _-_, _*_, _≤_}
 use native.Mathlib.Omega.{arith}
-use mathlib.Core.Bool.{Bool, true, false, not}
 use mathlib.Core.List.{List, [], _∷_, _++_, map}
 use lib.ListN.{length, getD, take, drop, length-append, length-take}
 use lib.Seq.{take-at, getD-at, take-take}
-use lib.Dec.{T, ltb, nltb→le}
+use lib.Dec.{T, nltb→le}
 use borrow.Author.Tests.{le-ltb}
-use Rattle.base.specs.Branch.{if}
 use Rattle.base.specs.BranchLaws.{if-elim}
 use Rattle.rules.specs.Reading.{Bytes}
-use Rattle.rules.specs.Sheet.{Key, key, Fact, rel, Entry}
-use Rattle.rules.specs.Image.{padded, entryBytes, keyBytes, factBytes, part, argsIn, keyIn, factIn}
+use Rattle.rules.specs.Sheet.{key, rel}
+use Rattle.rules.specs.Image.{padded, entryBytes, keyBytes, part, argsIn, keyIn, factIn}
 use Rattle.images.specs.Regions.{padded-length}
 use Rattle.packing.specs.Digits.{numberFrom, number}
 use Rattle.packing.specs.Pack.{packKey, packEntry, key-number}

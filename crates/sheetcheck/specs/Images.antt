@@ -2,23 +2,20 @@
 -- each entry is in shape, and the room behind them is zero.
 use mathlib.Core.Path.{_≡_, refl, sym, ap, ap₂, _∙_, subst}
 use Prim.Native.Nat.{ℕ, zero, suc, _+_, _-_, _*_, _/_, _%_, _≤_, _<_, min}
-use native.Mathlib.Nat.{mul-sub}
 use native.Mathlib.Omega.{arith}
-use mathlib.Core.Bool.{Bool, true, false}
 use mathlib.Core.List.{List, [], _∷_, _++_, map}
 use lib.ListN.{length, getD, take, drop, replicate, length-append, length-take, length-drop, length-map, take-append-drop}
-use lib.Seq.{take-all, drop-drop}
-use lib.Dec.{T, eqb, eqb→eq}
+use lib.Seq.{take-all}
+use lib.Dec.{T}
 use Rattle.base.specs.Lists.{All, flat, from}
-use Rattle.base.specs.ListLaws.{map-map, all-map, all-unmap, all-all}
-use Rattle.base.specs.BranchLaws.{eq→eqb}
+use Rattle.base.specs.ListLaws.{map-map, all-map, all-unmap}
 use Rattle.pools.specs.Count.{from-all, all-from}
 use Rattle.rules.specs.Reading.{Bytes, num}
-use Rattle.rules.specs.Sheet.{Limits, Sheet}
+use Rattle.rules.specs.Sheet.{Limits}
 use Rattle.rules.specs.Image.{word, padded, entryBytes, keyBytes, factBytes, sheetHead, sheetBytes, sheetSize, part, parts, argsIn, keyIn, factIn, sheetIn}
 use Rattle.images.specs.Regions.{padded-length}
-use Rattle.sheetparts.specs.Loops.{upTo, every-at, at-every}
-use Rattle.sheetparts.specs.Tests.{byteAt, zeroAt, zeros, spare, factsFrom, depthsFrom, Fair}
+use Rattle.sheetparts.specs.Loops.{upTo}
+use Rattle.sheetparts.specs.Tests.{byteAt, zeros, spare, factsFrom, depthsFrom, Fair}
 use Rattle.sheetcheck.specs.Regions.{join-split, part-length, part-at, part-join, part-row, region-front, front-region, parts-row, table-parts, parts-table}
 use Rattle.sheetcheck.specs.Entries.{argsAt, args-here, image-length, image-entry, entry-image}
 

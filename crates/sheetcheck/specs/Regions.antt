@@ -1,20 +1,18 @@
 -- Regions of bytes that are the image of what they say: a padded list is its region if the list stands in front and zeros behind;
 -- a table is its region if each entry is its part.
 use mathlib.Core.Path.{_≡_, refl, sym, ap, ap₂, _∙_, subst}
-use Prim.Native.Nat.{ℕ, zero, suc, _+_, _-_, _*_, _≤_, _<_, min}
-use native.Mathlib.Nat.{mul-suc, mul-zero, add-zero}
+use Prim.Native.Nat.{ℕ, zero, suc, _+_, _-_, _*_, _≤_, _<_}
+use native.Mathlib.Nat.{mul-suc, mul-zero}
 use native.Mathlib.Omega.{arith}
-use native.Mathlib.Numerals.{add-one}
-use mathlib.Core.Bool.{Bool, true, false}
-use mathlib.Core.List.{List, [], _∷_, _++_, map}
-use lib.ListN.{length, getD, take, drop, replicate, length-append, length-replicate, length-take, length-drop, getD-replicate}
-use lib.Seq.{take-at, drop-at, take-add, drop-drop, drop-cons, take-take, length-take-le, getD-take, getD-drop, ext-getD, take-append-seam, drop-append-seam}
-use lib.Dec.{T, eqb, eqb→eq}
-use Rattle.base.specs.Lists.{All, all, flat, from}
+use mathlib.Core.List.{_∷_, _++_, map}
+use lib.ListN.{length, getD, take, drop, replicate, length-replicate, length-take, length-drop, getD-replicate}
+use lib.Seq.{take-at, drop-at, take-add, drop-drop, drop-cons, length-take-le, getD-take, getD-drop, ext-getD, take-append-seam, drop-append-seam}
+use lib.Dec.{T, eqb→eq}
+use Rattle.base.specs.Lists.{All, flat, from}
 use Rattle.base.specs.BranchLaws.{eq→eqb}
 use Rattle.rules.specs.Reading.{Bytes}
 use Rattle.rules.specs.Image.{padded, part, parts}
-use Rattle.sheetparts.specs.Loops.{upTo, every, every-at, at-every}
+use Rattle.sheetparts.specs.Loops.{upTo, every-at, at-every}
 use Rattle.sheetparts.specs.Tests.{byteAt, zeroAt, zeros}
 
 -- Joins of one length are equal part by part.

@@ -1,13 +1,13 @@
 -- A lone sheet: the tests on its bytes, head, room and body, come to the definition: the bytes are the image of what they say, and
 -- that is sound.
 use mathlib.Core.Path.{_≡_, refl, sym, ap, ap₂, _∙_, subst}
-use Prim.Native.Nat.{ℕ, zero, suc, _+_, _-_, _*_, _≤_, _<_, min, max}
+use Prim.Native.Nat.{ℕ, zero, suc, _+_, _-_, _*_, _≤_, _<_, min}
 use native.Mathlib.Decide.{decLe}
 use native.Mathlib.Omega.{arith}
 use mathlib.Core.Bool.{Bool, true, false, not, _&&_}
-use mathlib.Core.List.{List, [], _∷_, _++_, map}
+use mathlib.Core.List.{List, [], _∷_, map}
 use lib.ListN.{length, getD, take, drop, length-map, List·getD-eq-default}
-use lib.Dec.{T, T-not, leb, ltb, eqb, leb→le, le→leb, ltb→lt, lt→ltb, nltb→le, eqb→eq}
+use lib.Dec.{T, leb, ltb, eqb, leb→le, le→leb, ltb→lt, lt→ltb, nltb→le, eqb→eq}
 use Rattle.base.specs.Branch.{if, isLt}
 use Rattle.base.specs.Lists.{All, all, from, equal}
 use Rattle.base.specs.BranchLaws.{if-elim, and-l, and-r, and-i, eq→eqb}
@@ -15,13 +15,13 @@ use Rattle.base.specs.ListLaws.{map-map, map-agree, all-any, all-all, all-of, o
 use Rattle.pools.specs.Count.{from-all, all-from}
 use Rattle.rules.specs.Book.{Names}
 use Rattle.rules.specs.Reading.{Bytes, num}
-use Rattle.rules.specs.Sheet.{Key, key, Fact, rel, Entry, Model, Sheet, keyOrder, factOrder, known, Limits}
+use Rattle.rules.specs.Sheet.{key, Fact, rel, Entry, Model, Sheet, keyOrder, factOrder, known, Limits}
 use Rattle.rules.specs.Bound.{depthOver}
 use Rattle.rules.specs.Image.{part, parts, keyIn, factIn, sheetSize, sheetIn, sheetBytes}
 use Rattle.rules.specs.Sound.{rising, hasArity, declaredAs, keyDeclared, factDeclared, depthRight, soundModel, soundSheet}
 use Rattle.packing.specs.Pack.{fact-order}
-use Rattle.sheetparts.specs.Loops.{upTo, up-end, every, every-at, at-every}
-use Rattle.sheetparts.specs.Tests.{byteAt, zeros, zeroAt, spare, named, argDepth, entryDepth, keyValue, keyDepth, lowest, Lows, unknown, wanted, tableRight, depthAt, depthsRight, factsFrom, depthsFrom, headRight, roomRight, bodyRight, sheetSound, Fair}
+use Rattle.sheetparts.specs.Loops.{upTo, up-end, every-at, at-every}
+use Rattle.sheetparts.specs.Tests.{byteAt, zeros, zeroAt, named, argDepth, entryDepth, keyValue, keyDepth, lowest, Lows, unknown, wanted, tableRight, depthAt, depthsRight, factsFrom, depthsFrom, headRight, roomRight, bodyRight, sheetSound, Fair}
 use Rattle.sheetcheck.specs.Regions.{part-length, part-at, parts-row}
 use Rattle.sheetcheck.specs.Entries.{argsAt, key-here, fact-here, args-row, args-length, spare-few}
 use Rattle.sheetcheck.specs.Tables.{all-at, at-all, rising-at, at-rising, both-of, of-both, related-of, of-related, related-kind, entry-shape, keyOfEntry, Clauses, table-clauses, clauses-table}

@@ -1,11 +1,11 @@
 -- A table of entries: its test says clause by clause what the definitions say of its entries, read one by one.
 use mathlib.Core.Path.{_≡_, refl, sym, ap, ap₂, _∙_, subst}
-use Prim.Native.Nat.{ℕ, zero, suc, _+_, _-_, _*_, _≤_, _<_, compare, Ordering, Ordering·lt}
+use Prim.Native.Nat.{ℕ, zero, suc, _+_, _-_, _*_, _≤_, _<_, compare, Ordering}
 use native.Mathlib.Omega.{arith}
-use mathlib.Core.Bool.{Bool, true, false, not, _&&_}
-use mathlib.Core.List.{List, [], _∷_, _++_, map}
+use mathlib.Core.Bool.{Bool, true, false, _&&_}
+use mathlib.Core.List.{List, [], _∷_, map}
 use lib.ListN.{length, getD}
-use lib.Dec.{T, leb, ltb, eqb, ltb→lt, lt→ltb, eqb→eq}
+use lib.Dec.{T, ltb, eqb, ltb→lt, lt→ltb, eqb→eq}
 use Rattle.base.specs.Branch.{if, isLt}
 use Rattle.base.specs.Lists.{All, all, from}
 use Rattle.base.specs.BranchLaws.{if-elim, and-l, and-r, and-i, eq→eqb, neqb→ne, isLt-is, is-isLt}
@@ -14,10 +14,10 @@ use Rattle.pools.specs.Count.{from-all, all-from}
 use Rattle.rules.specs.Book.{Names}
 use Rattle.rules.specs.Reading.{Bytes}
 use Rattle.rules.specs.Sheet.{Key, key, keyOrder}
-use Rattle.rules.specs.Sound.{rising, risingFrom, hasArity, declaredAs}
+use Rattle.rules.specs.Sound.{rising, risingFrom, hasArity}
 use Rattle.images.specs.Storable.{Octet}
 use Rattle.packing.specs.Compare.{compare-lt, compare-is-lt}
-use Rattle.packing.specs.Pack.{packKey, Fits, arityOf, declared-arity, relation-arity, key-order}
+use Rattle.packing.specs.Pack.{Fits, arityOf, declared-arity, relation-arity, key-order}
 use Rattle.sheetparts.specs.Loops.{upTo, every, every-at, at-every}
 use Rattle.sheetparts.specs.Tests.{byteAt, spare, named, keyNumber, rises, unknown, knownAt, argsKnown, entryRight, entryAt, tableRight}
 use Rattle.sheetcheck.specs.Entries.{argsAt, spare-few, args-row, args-length, few-args, packed-here}

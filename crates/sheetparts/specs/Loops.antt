@@ -1,12 +1,12 @@
 -- A test of each number from i up to n, as a loop makes it: one law for a turn, one for the way out, one for the end.
-use mathlib.Core.Path.{_≡_, refl, sym, ap, _∙_, subst}
+use mathlib.Core.Path.{_≡_, refl, sym, ap, _∙_}
 use Prim.Native.Nat.{ℕ, zero, suc, _+_, _-_, _≤_, _<_}
 use native.Mathlib.Omega.{arith}
 use native.Mathlib.Numerals.{add-one}
 use mathlib.Core.Bool.{Bool, true, false, _&&_}
 use mathlib.Core.List.{List, [], _∷_}
 use lib.Dec.{T}
-use Rattle.base.specs.Lists.{All, all, from}
+use Rattle.base.specs.Lists.{all, from}
 use Rattle.base.specs.ListLaws.{all-of, of-all}
 use Rattle.pools.specs.Count.{from-all, all-from}
 

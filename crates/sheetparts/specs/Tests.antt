@@ -1,11 +1,11 @@
 -- The tests of a lone sheet, on its bytes: what the code computes, test by test. An entry is eight bytes at a place; a test of keys
 -- serves facts too, as entries of kind 0 and value 0.
 use mathlib.Core.Path.{_≡_}
-use Prim.Native.Nat.{ℕ, zero, suc, _+_, _-_, _*_, _≤_, _<_, min}
+use Prim.Native.Nat.{ℕ, _+_, _-_, _*_, _≤_, _<_, min}
 use mathlib.Core.Bool.{Bool, true, false, _&&_}
 use mathlib.Core.List.{List, [], _∷_, map}
 use lib.ListN.{getD}
-use lib.Dec.{leb, ltb, eqb}
+use lib.Dec.{ltb, eqb}
 use Rattle.base.specs.Branch.{if}
 use Rattle.base.specs.Lists.{equal}
 use Rattle.rules.specs.Book.{Names}

@@ -1,10 +1,10 @@
 -- The ways out of the small tests, one law for each.
 use mathlib.Core.Path.{_≡_, refl, sym, ap, ap₂, _∙_, subst}
-use Prim.Native.Nat.{ℕ, zero, suc, _+_, _-_, _*_, _≤_, _<_, min, max}
+use Prim.Native.Nat.{ℕ, _+_, _-_, _≤_, _<_, min, max}
 use native.Mathlib.Omega.{arith}
 use native.Mathlib.Numerals.{add-one}
 use mathlib.Core.Bool.{Bool, true, false, _&&_}
-use mathlib.Core.List.{List, [], _∷_, map}
+use mathlib.Core.List.{List, map}
 use lib.ListN.{length, getD, set}
 use lib.Seq.{getD-set-same, getD-set-other}
 use lib.Dec.{ltb, eqb}
@@ -12,11 +12,10 @@ use native.Mathlib.Decide.{ℕ-discrete}
 use borrow.Author.Tests.{lt-ltb, le-ltb, eq-eqb, ne-eqb}
 use Rattle.base.specs.Branch.{if}
 use Rattle.rules.specs.Book.{Names}
-use Rattle.rules.specs.Reading.{Bytes}
 use Rattle.rules.specs.Bound.{depthOver}
 use Rattle.rules.specs.Sound.{hasArity, declaredAs}
 use Rattle.sheetparts.specs.Loops.{upTo, up-next, up-end}
-use Rattle.sheetparts.specs.Tests.{lowest, unknown, Lows, keyValue, keyDepth}
+use Rattle.sheetparts.specs.Tests.{lowest}
 
 -- ---- a symbol
 

@@ -1,20 +1,15 @@
 -- The working form of a sheet: one list of numbers with five counts in front, then regions whose places follow from the limits:
 -- keys, room for pairs that wait to be merged, facts, depths, and for each element what it is now.
-use mathlib.Core.Path.{_≡_, refl}
+use mathlib.Core.Path.{_≡_}
 use Prim.Native.Nat.{ℕ, _+_, _≤_}
 use mathlib.Core.List.{List, map}
 use lib.ListN.{length, getD}
-use Rattle.rules.specs.Sheet.{Sheet, Limits, limits}
+use Rattle.rules.specs.Sheet.{Sheet, Limits}
 use Rattle.rules.specs.Image.{part}
 use Rattle.packing.specs.Pack.{packEntry, packFact}
 
 abbrev pub limitsOf : (elements keys facts : ℕ) → Limits
 limitsOf e k f = record { elements = e; keys = k; facts = f }
-
--- The limits of this version, as code has them.
-pub limits-are : limits ≡ limitsOf 64 128 128
-unfolding limits
-limits-are = refl
 
 -- ---- places
 

@@ -5,7 +5,7 @@ use Prim.Native.Nat.{ℕ, zero, suc, _+_, _≤_, _<_}
 use native.Mathlib.Nat.{le-refl}
 use native.Mathlib.Omega.{arith}
 use mathlib.Core.List.{List, [], _∷_}
-use lib.ListN.{length, getD, length-map}
+use lib.ListN.{length, getD}
 use lib.Dec.{T, leb, ltb, eqb, leb→le, ltb→lt, lt→ltb, nltb→le, eqb→eq}
 use Rattle.base.specs.Branch.{if}
 use Rattle.base.specs.Lists.{All}
@@ -65,10 +65,6 @@ completed-wf d s w = (
             (appended-wf d (s .free + length (j .origins)) (s .free) (j .origins) (j .literals) (le-refl _)),
       )) (s .head) (w .1),
 )
-
-pub rules-length : (b : Book) → length (rules b) ≡ length (b .sequents)
-unfolding rules
-rules-length b = length-map (b .sequents) completed
 
 -- ---- the ways of joining readings
 

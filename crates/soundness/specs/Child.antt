@@ -1,16 +1,15 @@
 -- A child that was never too big is neat. Every literal keeps the child's sheet tidy, whatever the bound skips and whatever is
 -- observed; its size is tested when a literal is in, and merging makes nothing larger.
-use mathlib.Core.Path.{_≡_, refl, sym, ap₂, _∙_, subst}
-use Prim.Native.Nat.{ℕ, zero, suc, _+_, _<_}
-use native.Mathlib.Omega.{arith}
+use mathlib.Core.Path.{_≡_, sym, ap₂, _∙_, subst}
+use Prim.Native.Nat.{ℕ, _+_}
 use mathlib.Core.Bool.{not}
 use mathlib.Core.Option.{some}
 use mathlib.Core.List.{List, [], _∷_, map}
-use lib.ListN.{length, take, drop, length-append, length-map}
+use lib.ListN.{length, length-append, length-map}
 use lib.Dec.{T, ltb, nltb→le}
-use Rattle.base.specs.Lists.{All, entries}
+use Rattle.base.specs.Lists.{All}
 use Rattle.base.specs.BranchLaws.{if-elim, or-no}
-use Rattle.base.specs.ListLaws.{all-all, all-map, all-append, all-take, all-drop, all-in, in-mem, In, entries-length, entries-all}
+use Rattle.base.specs.ListLaws.{all-all, all-map, all-append, all-in, in-mem, In, entries-length, entries-all}
 use Rattle.rules.specs.Book.{Literal, fact, same, Disjunct, Sequent, Names}
 use Rattle.rules.specs.Sheet.{Fact, Model, domain, known, Limits}
 use Rattle.rules.specs.Look.{Meaning, elem, originMeaning, headMeanings}

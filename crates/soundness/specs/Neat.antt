@@ -1,6 +1,6 @@
 -- A neat sheet: what "sound" says of a sheet alone, as a record. It has three parts: limits, order and names, and links.
 -- Merging, by any order, keeps limits, order and names since each round does; Join has the links.
-use mathlib.Core.Path.{refl, sym, subst}
+use mathlib.Core.Path.{sym, subst}
 use Prim.Native.Nat.{ℕ, zero, suc, _+_, _≤_, min, max}
 use native.Mathlib.Nat.{le-trans}
 use native.Mathlib.Omega.{arith}
@@ -11,7 +11,7 @@ use Rattle.base.specs.Lists.{All}
 use Rattle.base.specs.BranchLaws.{if-elim}
 use Rattle.base.specs.ListLaws.{all-map}
 use Rattle.rules.specs.Book.{Names}
-use Rattle.rules.specs.Sheet.{Fact, Entry, Model, empty, Limits}
+use Rattle.rules.specs.Sheet.{Fact, Entry, Model, Limits}
 use Rattle.rules.specs.Bound.{History}
 use Rattle.rules.specs.Merge.{rename, renameEntry, renameFact, Pair, renamePair, Filed, file, refile, refact, lowered, merge}
 use Rattle.rules.specs.Sound.{hasArity, declaredAs, keyDeclared, factDeclared}
@@ -108,13 +108,3 @@ mergeBy-listed order next ro d a b m now g =
 
 pub merge-listed : (d : Names) (a b : ℕ) (m : Model) (now : History) → Listed d m → Listed d (merge a b m now .0)
 merge-listed d a b m now g = merge-has (λ (r : History → Model × History). Listed d (r now .0)) a b m (λ order next ro rn. mergeBy-listed order next ro d a b m now g)
-
--- ---- the sheet of a new pool
-
-pub empty-neat : (lim : Limits) (d : Names) → Neat lim d empty
-unfolding empty
-empty-neat lim d = record {
-  small = record { fewCreated = omega arith; fewKeys = omega arith; fewFacts = omega arith };
-  listed = record { keysRise = tt; factsRise = tt; keysDeclared = tt; factsDeclared = tt };
-  linked = record { keyArgs = tt; factArgs = tt; low = tt; long = refl; reached = λ e y. absurd (y .lower); rests = tt; gone = λ e n. refl };
-}

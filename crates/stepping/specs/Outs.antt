@@ -1,23 +1,23 @@
 -- The ways out of the code of a step, in the numbers that the code has.
-use mathlib.Core.Path.{_≡_, refl, sym, ap, _∙_, subst}
-use Prim.Native.Nat.{ℕ, zero, suc, _+_, _*_, _≤_, _<_}
+use mathlib.Core.Path.{_≡_, sym, ap, _∙_, subst}
+use Prim.Native.Nat.{ℕ, _+_, _*_, _≤_, _<_}
 use native.Mathlib.Omega.{arith}
 use mathlib.Core.Bool.{Bool, true, false}
-use mathlib.Core.Option.{Option, none, some}
-use mathlib.Core.List.{List, [], _∷_, _++_}
+use mathlib.Core.Option.{some}
+use mathlib.Core.List.{List, _∷_, _++_}
 use lib.ListN.{length, getD, take, drop}
 use Rattle.base.specs.Lists.{All}
 use Rattle.rules.specs.Book.{rules}
 use Rattle.rules.specs.Reading.{Bytes, num}
 use Rattle.rules.specs.Fire.{firing}
-use Rattle.rules.specs.Pool.{State, strategyOf, sheetAt, used, changed}
+use Rattle.rules.specs.Pool.{strategyOf, sheetAt, used}
 use Rattle.rules.specs.Image.{part, poolBytes}
 use Rattle.rules.specs.Bound.{Bound}
 use Rattle.rules.specs.Step.{Answer, refuse, done}
 use Rattle.rules.specs.Calls.{boundOf}
 use Rattle.placing.specs.OneByOne.{free-count}
 use Rattle.pools.specs.Count.{cnt-all}
-use Rattle.pools.specs.Steps.{strategyIn, visited}
+use Rattle.pools.specs.Steps.{visited}
 use Rattle.texts.specs.Names.{countAt}
 use Rattle.sheets.specs.Load.{Loaded}
 use Rattle.enter.specs.Grow.{Sturdy}
@@ -29,7 +29,7 @@ use Rattle.evalforms.specs.Basis.{Evaluated}
 use Rattle.deriving.specs.Derived.{AnyOver}
 use Rattle.lists.specs.Moves.{Finished}
 use Rattle.adopting.specs.Slots.{Freed}
-use Rattle.stepping.specs.Standing.{L, Standing, Went, Stepped, few, shows, small, short, strategy-is, none-waits, first-waits, Based, based, slot-fits, neat, sturdy, inside}
+use Rattle.stepping.specs.Standing.{L, Standing, Stepped, few, shows, small, short, strategy-is, none-waits, first-waits, Based, based, slot-fits, neat, sturdy}
 use Rattle.stepping.specs.Heads.{HeadAt, NextPlace, RoomFor}
 use Rattle.stepping.specs.Ways.{step-none, step-done}
 use Rattle.stepping.specs.Settling.{Settled}

@@ -1,17 +1,16 @@
 -- The base gone and its children stored: the definition's state with all of them placed.
-use mathlib.Core.Path.{_≡_, refl, sym, ap, _∙_, subst}
+use mathlib.Core.Path.{_≡_, ap, _∙_}
 use Prim.Native.Nat.{ℕ, _+_, _-_, _*_, _/_, _≤_, _<_}
 use native.Mathlib.Omega.{arith}
-use mathlib.Core.List.{List, [], _∷_}
-use lib.ListN.{length, take, length-set}
+use mathlib.Core.List.{List, _∷_}
+use lib.ListN.{length, take}
 use Rattle.base.specs.Lists.{All}
 use Rattle.rules.specs.Book.{Disjunct, Book}
 use Rattle.rules.specs.Reading.{Bytes}
-use Rattle.rules.specs.Sheet.{Model, blank}
-use Rattle.rules.specs.Pool.{State, numbers, free, changed, freed}
+use Rattle.rules.specs.Sheet.{Model}
+use Rattle.rules.specs.Pool.{State, numbers, free, changed}
 use Rattle.rules.specs.Image.{poolBytes, headSize, sheetSize}
 use Rattle.rules.specs.Bound.{Bound}
-use Rattle.rules.specs.Child.{Child}
 use Rattle.rules.specs.Step.{placed, withPlaced, withoutBase}
 use Rattle.images.specs.Pools.{pool-length}
 use Rattle.pools.specs.Tidy.{placesOf, Tidy}

@@ -1,23 +1,22 @@
 -- A pool that stands: the image of a tidy state for the book that the text is read as. What code reads off its bytes.
-use mathlib.Core.Path.{_≡_, refl, sym, ap, ap₂, _∙_, subst}
-use Prim.Native.Nat.{ℕ, zero, suc, _+_, _*_, _≤_, _<_, max}
+use mathlib.Core.Path.{_≡_, refl, sym, ap, _∙_, subst}
+use Prim.Native.Nat.{ℕ, zero, suc, _+_, _*_, _≤_, _<_}
 use native.Mathlib.Omega.{arith}
-use mathlib.Core.Bool.{Bool, _&&_}
 use mathlib.Core.List.{List, [], _∷_, _++_, map, append-nil}
 use lib.ListN.{length, getD, take, drop}
 use lib.Dec.{T, ltb→lt}
-use Rattle.base.specs.Lists.{All, from}
+use Rattle.base.specs.Lists.{from}
 use Rattle.base.specs.BranchLaws.{and-l, and-r}
 use Rattle.rules.specs.Book.{Names, Book, rules}
 use Rattle.rules.specs.Reading.{Bytes, num, got, readBook}
-use Rattle.rules.specs.Sheet.{Model, Sheet, blank, Limits, limits}
+use Rattle.rules.specs.Sheet.{Sheet, Limits, limits}
 use Rattle.rules.specs.Fire.{Strategy, linear, fair, places}
 use Rattle.rules.specs.Pool.{State, strategyOf, sheetAt}
 use Rattle.rules.specs.Image.{word, long, part, poolMark, poolHead, poolBytes, sheetBytes, headSize, sheetSize, mostSlots, listIn, poolIn}
 use Rattle.rules.specs.Sound.{soundModel, soundSheet}
 use Rattle.rules.specs.Step.{Answer, step}
 use Rattle.rules.specs.Calls.{boundOf}
-use Rattle.images.specs.Storable.{SmallLimits, small-limits, StorableSheet}
+use Rattle.images.specs.Storable.{small-limits, StorableSheet}
 use Rattle.images.specs.Pools.{pool-length, pool-back}
 use Rattle.images.specs.Slots.{slot-part}
 use Rattle.soundness.specs.Neat.{Neat}

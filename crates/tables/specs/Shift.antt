@@ -1,12 +1,12 @@
 -- The first n entries of a table with a gap opened at a place, as a loop opens it from behind; and one entry put into the gap.
-use mathlib.Core.Path.{_≡_, ap, _∙_}
+use mathlib.Core.Path.{_≡_}
 use Prim.Native.Nat.{ℕ, zero, suc, _+_, _-_, _≤_, _<_}
 use native.Mathlib.Nat.{sub-self}
 use native.Mathlib.Numerals.{add-one, sub-one}
 use native.Mathlib.Omega.{arith}
 use mathlib.Core.List.{List, _∷_, _++_, append-assoc}
 use lib.ListN.{length, getD, take, drop, set, length-take, take-append-drop, List·getD-append}
-use lib.Seq.{take-suc, drop-cons, set-at, append-snoc, getD-take, length-take-le, take-take, take-add, drop-at}
+use lib.Seq.{take-suc, drop-cons, set-at, append-snoc, getD-take, length-take-le, take-take}
 use Rattle.images.specs.Kept.{drop-take}
 use Rattle.tables.specs.Table.{insertAt}
 

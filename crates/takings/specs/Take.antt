@@ -120,9 +120,6 @@ module _ (p : Bytes) (r : Ready p) where
 
   -- ---- the bytes afterwards
 
-  abbrev slotsNow : Bytes
-  slotsNow = flat (map (sheetBytes limits) (s .slots))
-
   abbrev Sized : Sheet → Type 0
   Sized x = length (sheetBytes limits x) ≡ 2128
 

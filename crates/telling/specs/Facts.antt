@@ -1,11 +1,10 @@
 -- One fact more on the working form: the writes that put it there, what the form shows afterwards, and what that says of the model.
 use mathlib.Core.Path.{_≡_, refl, sym, ap, ap₂, _∙_, subst}
-use Prim.Native.Nat.{ℕ, zero, suc, _+_, _*_, _≤_, _<_, Ordering, Ordering·lt, Ordering·eq, Ordering·gt}
+use Prim.Native.Nat.{ℕ, suc, _+_, _*_, _≤_, _<_, Ordering, Ordering·lt, Ordering·eq, Ordering·gt}
 use native.Mathlib.Omega.{arith}
-use mathlib.Core.Bool.{Bool, true, false, not}
+use mathlib.Core.Bool.{Bool, true, false}
 use mathlib.Core.Logic.{_⊎_, inl, inr}
-use mathlib.Core.Option.{Option}
-use mathlib.Core.List.{List, [], _∷_, _++_, map}
+use mathlib.Core.List.{List, [], _∷_, map}
 use lib.ListN.{length, getD, take, drop, set, length-set, length-map}
 use lib.Seq.{getD-set-same, getD-set-other}
 use lib.Dec.{T, isEq}
@@ -13,7 +12,7 @@ use borrow.Rule.Slice.PartMut.{putMid}
 use Rattle.base.specs.Branch.{three}
 use Rattle.base.specs.Lists.{All}
 use Rattle.rules.specs.Book.{Names}
-use Rattle.rules.specs.Sheet.{Fact, rel, factOrder, holds, insertFact, Model, Limits}
+use Rattle.rules.specs.Sheet.{Fact, factOrder, holds, insertFact, Model, Limits}
 use Rattle.rules.specs.Image.{part}
 use Rattle.rules.specs.Bound.{History}
 use Rattle.rules.specs.Child.{withFact}
@@ -24,7 +23,7 @@ use Rattle.tables.specs.Ways.{Put, put-front}
 use Rattle.tables.specs.Carry.{FitsFact, facts-insert-is, facts-hold-is}
 use Rattle.octets.specs.Patch.{patched, patched-length, patched-part}
 use Rattle.sheets.specs.Parts.{part-here, part-before, part-behind, count-before, part-front}
-use Rattle.sheets.specs.Form.{View, viewOf, Formed, keysAt, factsAt, depthsAt, historyAt, formSize}
+use Rattle.sheets.specs.Form.{View, viewOf, keysAt, factsAt, depthsAt, historyAt, formSize}
 use Rattle.enter.specs.Grow.{Sturdy, part-set-behind}
 use Rattle.enter.specs.Keep.{Carries, carries-view}
 

@@ -1,18 +1,17 @@
 -- One law for each way out of judging a literal, and of telling it.
-use mathlib.Core.Path.{_≡_, refl, sym, ap, ap₂, _∙_, subst}
-use Prim.Native.Nat.{ℕ, zero, suc, _+_, _-_, _≤_, _<_}
+use mathlib.Core.Path.{_≡_, refl, sym, ap, _∙_, subst}
+use Prim.Native.Nat.{ℕ, _+_, _-_, _<_}
 use native.Mathlib.Omega.{arith}
 use mathlib.Core.Bool.{Bool, true, false}
-use mathlib.Core.List.{List, [], _∷_, map}
+use mathlib.Core.List.{List, map}
 use lib.ListN.{length, getD, take}
 use lib.Seq.{length-take-le}
-use lib.Dec.{T}
 use Rattle.base.specs.Branch.{if}
 use Rattle.base.specs.Lists.{firsts}
-use Rattle.rules.specs.Book.{Term, Terms, nil, cons, Literal, fact, same}
+use Rattle.rules.specs.Book.{nil, cons, Literal, fact, same}
 use Rattle.rules.specs.Reading.{Bytes, num}
 use Rattle.rules.specs.Sheet.{Model, domain, Limits}
-use Rattle.rules.specs.Look.{Meaning, observed}
+use Rattle.rules.specs.Look.{observed}
 use Rattle.rules.specs.Bound.{Bound, History, termsOf, admitted}
 use Rattle.rules.specs.Child.{Child, recorded, tell}
 use Rattle.packing.specs.Pack.{arityOf}
@@ -26,9 +25,8 @@ use Rattle.sheets.specs.Form.{viewOf}
 use Rattle.enter.specs.Terms.{Setting, Told, told-holding}
 use Rattle.bound.specs.Seen.{told-shown, setting-means}
 use Rattle.bound.specs.Answers.{IsAdmitted}
-use Rattle.telling.specs.declared.Judged.{Judged}
 use Rattle.telling.specs.declared.Judged.the-variants.{Cut, Seen, New}
-use Rattle.telling.specs.Literals.{Held, LiteralAt, Records, IsRecorded, IsAllowed, Listed, JudgedAs, IsJudged, Goes, IsTold}
+use Rattle.telling.specs.Literals.{Held, LiteralAt, Records, IsRecorded, IsAllowed, Listed, IsJudged, Goes, IsTold}
 use Rattle.telling.specs.Ways.{true-false, literal-grows, fact-terms, same-terms}
 
 -- ---- what the bound says of a literal

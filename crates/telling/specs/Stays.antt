@@ -1,40 +1,33 @@
 -- What recording keeps: a fact more leaves a sheet tidy; merging leaves the tables of a form rising and the sheet tidy; a form that
 -- carries a model is not too big.
-use mathlib.Core.Path.{_≡_, refl, sym, ap, _∙_, subst}
-use Prim.Native.Nat.{ℕ, zero, suc, _+_, _≤_, _<_, _/_, _%_, min, max}
-use native.Mathlib.Omega.{arith}
-use mathlib.Core.Bool.{Bool, true, false}
-use mathlib.Core.List.{List, [], _∷_, map}
-use lib.ListN.{length, getD}
-use lib.Dec.{T, eqb, ltb}
+use mathlib.Core.Path.{_≡_, refl, sym, subst}
+use Prim.Native.Nat.{ℕ, zero, suc, _/_, _%_, min, max}
+use mathlib.Core.Bool.{false}
+use mathlib.Core.List.{List, [], _∷_}
+use lib.ListN.{length}
+use lib.Dec.{eqb}
 use borrow.Author.Tests.{le-ltb}
-use Rattle.base.specs.Branch.{if, caseL}
 use Rattle.base.specs.Lists.{All, from}
 use Rattle.base.specs.BranchLaws.{if-elim, caseL-elim}
 use Rattle.rules.specs.Book.{Names}
-use Rattle.rules.specs.Sheet.{Fact, Model, Sheet, Limits}
+use Rattle.rules.specs.Sheet.{Model, Sheet, Limits}
 use Rattle.rules.specs.Bound.{History}
 use Rattle.rules.specs.Merge.{merge}
-use Rattle.rules.specs.Child.{tooBig, withFact}
-use Rattle.rules.specs.Sound.{factDeclared}
-use Rattle.laws.specs.Tables.{insertFact-all, insertFact-rises}
+use Rattle.rules.specs.Child.{tooBig}
 use Rattle.images.specs.Storable.{Octet}
-use Rattle.soundness.specs.Tools.{Yielded, FactOver}
-use Rattle.soundness.specs.Join.{merge-linked}
-use Rattle.soundness.specs.Neat.{Small, merge-listed}
-use Rattle.soundness.specs.Enter.{Tidy}
+use Rattle.soundness.specs.Neat.{Small}
 use Rattle.packing.specs.Pack.{arityOf}
 use Rattle.tables.specs.Table.{Rising}
 use Rattle.filing.specs.File.{refile-rises, refact-rises, rising-sorted}
 use Rattle.filing.specs.Carry.{packPair}
-use Rattle.joining.specs.Work.{Work, waiting, intoIn, nextIn, mergeAllIn, loweredIn}
+use Rattle.joining.specs.Work.{Work, waiting, intoIn, nextIn, mergeAllIn}
 use Rattle.joining.specs.Carry.{mergedIn}
 use Rattle.joining.specs.Carry as joining
 use Rattle.merge.specs.Held.{HoldsNow}
 use Rattle.merge.specs.Into.{Orderly}
 use Rattle.merge.specs.Merged.{workIn, MergedForm}
 use Rattle.look.specs.Shown.{neat-keys-fit, neat-facts-shown}
-use Rattle.sheets.specs.Form.{View, viewOf, Formed}
+use Rattle.sheets.specs.Form.{viewOf}
 use Rattle.enter.specs.Grow.{Sturdy}
 use Rattle.enter.specs.Keep.{Carries}
 use Rattle.enter.specs.Marks.{Holding}

@@ -1,23 +1,18 @@
 -- One law for each way out of recording, judging and telling a literal.
 use mathlib.Core.Path.{_≡_, refl, sym, ap, ap₂, _∙_, subst}
-use Prim.Native.Nat.{ℕ, zero, suc, _+_, _-_, _*_, _≤_, _<_}
+use Prim.Native.Nat.{ℕ, _+_, _-_, _≤_, _<_}
 use native.Mathlib.Omega.{arith}
-use mathlib.Core.Bool.{Bool, true, false, not, _||_}
-use mathlib.Core.Logic.{_⊎_, inl, inr}
-use mathlib.Core.List.{List, [], _∷_, map}
+use mathlib.Core.Bool.{Bool, true, false, _||_}
+use mathlib.Core.List.{List}
 use lib.ListN.{length, getD}
 use lib.Dec.{T, ltb, lt→ltb}
-use Rattle.base.specs.Branch.{if}
-use Rattle.base.specs.BranchLaws.{or-l, or-r}
+use Rattle.base.specs.BranchLaws.{or-r}
 use Rattle.base.specs.ListLaws.{all-all}
-use Rattle.base.specs.Lists.{All, firsts}
+use Rattle.base.specs.Lists.{All}
 use Rattle.rules.specs.Book.{Term, Terms, nil, cons, Literal, fact, same}
 use Rattle.rules.specs.Reading.{Bytes, num}
-use Rattle.rules.specs.Sheet.{Fact, rel, Model, domain, Limits}
-use Rattle.rules.specs.Look.{Meaning, observed}
-use Rattle.rules.specs.Bound.{Bound, History, termsOf, admitted}
-use Rattle.rules.specs.Merge.{merge}
-use Rattle.rules.specs.Child.{enter, enters, Child, tooBig, withFact, recorded, tell}
+use Rattle.rules.specs.Sheet.{Fact, rel, Model, Limits}
+use Rattle.rules.specs.Child.{enter, enters, Child, tooBig, withFact, recorded}
 use Rattle.rules.specs.Sound.{hasArity, factDeclared}
 use Rattle.images.specs.Storable.{Octet}
 use Rattle.soundness.specs.Tools.{Yielded}
@@ -25,34 +20,27 @@ use Rattle.soundness.specs.Join.{merge-linked}
 use Rattle.soundness.specs.Neat.{merge-listed}
 use Rattle.soundness.specs.Book.{WfTerm}
 use Rattle.soundness.specs.Book as sound
-use Rattle.soundness.specs.Enter.{Tidy, enters-count, enter-entered, enters-entered}
+use Rattle.soundness.specs.Enter.{enters-count, enter-entered, enters-entered}
 use Rattle.packing.specs.Pack.{packKey, factKey, arityOf}
-use Rattle.packing.specs.Replace.{valueOf}
 use Rattle.tables.specs.Carry.{FitsFact}
 use Rattle.texts.specs.Names.{namesIn}
-use Rattle.texts.specs.Text.{count, TermText, TermsText, LiteralText}
+use Rattle.texts.specs.Text.{count, TermsText, LiteralText}
 use Rattle.texts.specs.Parts.{term-grows, terms-grow}
-use Rattle.domains.specs.Firsts.{domain-is}
-use Rattle.look.specs.Shown.{neat-keys-fit, neat-facts-shown, fact-fits}
+use Rattle.look.specs.Shown.{neat-facts-shown, fact-fits}
 use Rattle.look.specs.Answers as look
 use Rattle.look.specs.Digits.{start, top, packArgs, pack-args}
 use Rattle.merge.specs.Merged.{MergedForm}
 use Rattle.sheets.specs.Form.{viewOf}
-use Rattle.enter.specs.declared.Entered.{Entered}
 use Rattle.enter.specs.declared.Entered.the-variants.{Full, At}
 use Rattle.enter.specs.Keep.{Carries, carries-small, Crowded}
 use Rattle.enter.specs.Grows.{enter-grows, crowded-grows, crowded-big, crowded-fact}
-use Rattle.enter.specs.Marks.{Holding, yielded-octet, fits-low}
+use Rattle.enter.specs.Marks.{yielded-octet, fits-low}
 use Rattle.enter.specs.Terms.{Setting, Told, told-holding, TermAt, TermsAt, IsEnter, IsEnters}
 use Rattle.enter.specs.Ways.{counts-agree, terms-first}
-use Rattle.bound.specs.Seen.{told-shown, setting-means}
-use Rattle.bound.specs.Answers.{IsAdmitted}
-use Rattle.telling.specs.declared.Judged.{Judged}
-use Rattle.telling.specs.declared.Judged.the-variants.{Cut, Seen, New}
 use Rattle.telling.specs.Facts.{PutFact, fact-carried, fact-crowds}
 use Rattle.soundness.specs.Child.{fact-tidy}
 use Rattle.telling.specs.Stays.{small-fits, merged-carries, merged-digits}
-use Rattle.telling.specs.Literals.{Held, LiteralAt, Records, IsRecorded, JudgedAs, IsJudged, Goes, IsTold}
+use Rattle.telling.specs.Literals.{Held, LiteralAt, Records, IsRecorded}
 
 pub true-false : {C : Type 0} → true ≡ false → C
 true-false e = absurd (subst T e tt)

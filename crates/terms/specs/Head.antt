@@ -1,9 +1,8 @@
 -- What stands first in a term, by document 01: a leaf and its end, an application with the count and place of its arguments, or a
 -- refusal and its place; and one law for each way in which the reading of a term goes on from there.
-use mathlib.Core.Path.{_≡_, refl, sym, ap, _∙_}
-use Prim.Native.Nat.{ℕ, zero, suc, _+_, _-_, _≤_, _<_}
+use mathlib.Core.Path.{_≡_, refl, ap, _∙_}
+use Prim.Native.Nat.{ℕ, zero, suc, _-_, _≤_, _<_}
 use native.Mathlib.Omega.{arith}
-use native.Mathlib.Numerals.{sub-one}
 use mathlib.Core.Bool.{_&&_}
 use lib.ListN.{length, getD}
 use lib.Dec.{ltb, eqb}

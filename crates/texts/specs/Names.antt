@@ -1,7 +1,7 @@
 -- What the head of a book names, at the places where it stands: the counts at 5, 7, 9, 11 and 13, the arities from 15 on.
 -- `namesIn` is total, so that readers of counts and arities have contracts without a condition; that the names of an accepted
 -- book are these is a law of Heads.
-use mathlib.Core.Path.{_≡_, refl, sym, ap, _∙_}
+use mathlib.Core.Path.{_≡_, refl, ap, _∙_}
 use Prim.Native.Nat.{ℕ, zero, suc, _+_, _*_, _≤_, _<_}
 use native.Mathlib.Omega.{arith}
 use mathlib.Core.List.{List, [], _∷_}

@@ -1,16 +1,15 @@
 -- What a reading that gives a thing is made of, and the laws of one reading after another.
 -- Everything here holds of any reading; the texts of terms and sequents are in Text and Texts.
 use mathlib.Core.Path.{_≡_, refl, sym, ap, _∙_, subst}
-use Prim.Native.Nat.{ℕ, zero, suc, _+_, _*_, _≤_, _<_}
+use Prim.Native.Nat.{ℕ, zero, suc, _+_, _≤_, _<_}
 use native.Mathlib.Omega.{arith}
-use mathlib.Core.Bool.{Bool, true, false, not, _&&_}
+use mathlib.Core.Bool.{Bool, not, _&&_}
 use mathlib.Core.List.{List, [], _∷_}
-use lib.ListN.{length, getD}
-use lib.Dec.{T, leb, ltb, eqb, leb→le, ltb→lt, eqb→eq}
+use lib.ListN.{length}
+use lib.Dec.{T, leb, ltb, leb→le, ltb→lt}
 use Rattle.base.specs.Branch.{if}
 use Rattle.base.specs.BranchLaws.{if-elim, and-l, and-r}
-use Rattle.base.specs.Lists.{All}
-use Rattle.rules.specs.Reading.{Bytes, Read, got, refused, andThen, giving, many, num, number, ranged, declared, markByte, mark, version}
+use Rattle.rules.specs.Reading.{Bytes, Read, got, refused, andThen, giving, many, num, number, ranged, declared}
 
 -- ---- one reading after another
 

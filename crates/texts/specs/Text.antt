@@ -2,7 +2,6 @@
 -- By recursion on the thing, so that code which follows the text needs no count of levels. `n` gives the arities.
 use mathlib.Core.Path.{_≡_}
 use Prim.Native.Nat.{ℕ, suc, _+_, _*_}
-use mathlib.Core.List.{List}
 use lib.ListN.{length, getD}
 use Rattle.rules.specs.Book.{Term, var, con, app, Terms, nil, cons, Literal, fact, same, Origin, Disjunct, Sequent, Names}
 use Rattle.rules.specs.Reading.{Bytes, num, witnessArity}

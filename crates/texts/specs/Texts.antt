@@ -1,17 +1,17 @@
 -- What was read stands in the text: from a reading that gave a thing to the thing's text, which ends within the bytes.
 use mathlib.Core.Path.{_≡_, refl, sym, ap, _∙_, subst}
-use Prim.Native.Nat.{ℕ, zero, suc, _+_, _*_, _≤_, _<_}
+use Prim.Native.Nat.{ℕ, zero, suc, _+_, _*_, _≤_}
 use native.Mathlib.Omega.{arith}
-use mathlib.Core.Bool.{Bool, not, _&&_}
+use mathlib.Core.Bool.{Bool, _&&_}
 use mathlib.Core.List.{List, [], _∷_}
 use lib.ListN.{length, getD}
-use lib.Dec.{T, ltb, eqb, eqb→eq}
+use lib.Dec.{ltb, eqb, eqb→eq}
 use Rattle.base.specs.Branch.{if}
-use Rattle.rules.specs.Book.{Term, var, con, app, Terms, nil, cons, terms, Literal, fact, same, Origin, Disjunct, Sequent, Names, Book}
-use Rattle.rules.specs.Reading.{Bytes, Read, got, refused, andThen, giving, many, num, number, ranged, declared, termAt, literalAt, originAt, disjunctAt, sequentAt, witnesses, witnessArity, levels, readBook}
-use Rattle.texts.specs.Reads.{then-got, giving-got, if-got, if-passed, if-escaped, Number, number-got, ranged-got, declared-got, Follow, many-got, many-fits}
+use Rattle.rules.specs.Book.{Term, var, con, app, terms, Literal, Origin, Disjunct, Sequent, Names, Book}
+use Rattle.rules.specs.Reading.{Bytes, Read, got, refused, andThen, giving, many, num, declared, termAt, literalAt, originAt, disjunctAt, sequentAt, witnesses, witnessArity, levels}
+use Rattle.texts.specs.Reads.{then-got, giving-got, if-got, if-passed, if-escaped, number-got, ranged-got, declared-got, Follow, many-got, many-fits}
 use Rattle.texts.specs.Names.{nums, namesIn, countAt, sequentsAt}
-use Rattle.texts.specs.Heads.{Accepted, accepted}
+use Rattle.texts.specs.Heads.{Accepted}
 use Rattle.texts.specs.Text.{count, TermText, TermsText, LiteralText, OriginText, DisjunctText, SequentText}
 
 -- ---- terms

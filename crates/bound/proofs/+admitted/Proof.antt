@@ -1,5 +1,4 @@
 use native.Mathlib.Omega.{arith}
-use mathlib.Core.Path.{sym, _∙_}
 use lib.ListN.{take}
 use Rattle.rules.specs.Calls.{boundOf}
 use Rattle.sheets.specs.Form.{limitsOf}

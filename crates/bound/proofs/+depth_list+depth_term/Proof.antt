@@ -1,4 +1,4 @@
-use mathlib.Core.Path.{sym, ap, _∙_}
+use mathlib.Core.Path.{ap}
 use Prim.Native.Nat.{_%_}
 use lib.ListN.{take}
 use Rattle.sheets.specs.Form.{limitsOf}

@@ -1,5 +1,5 @@
 use native.Mathlib.Omega.{arith}
-use mathlib.Core.Path.{sym, ap, _∙_}
+use mathlib.Core.Path.{sym, _∙_}
 use Rattle.sheets.specs.Form.{limitsOf}
 use lib.ListN.{take}
 use Rattle.enter.specs.Ways.{head-applied}

@@ -1,6 +1,6 @@
 use native.Mathlib.Omega.{arith}
-use mathlib.Core.Path.{sym, ap, _∙_, subst}
-use Rattle.sheets.specs.Form.{limitsOf, viewOf}
+use mathlib.Core.Path.{ap}
+use Rattle.sheets.specs.Form.{limitsOf}
 use Prim.Native.Nat.{_%_}
 use Rattle.enter.specs.Args.{depth-bound}
 use Rattle.bound.specs.Seen.{depth-element, depth-large, depth-witness}

@@ -1,6 +1,5 @@
 use native.Mathlib.Omega.{arith}
-use mathlib.Core.Path.{_≡_, refl, sym, ap, _∙_, subst}
-use Rattle.sheets.specs.Form.{limitsOf, viewOf}
+use Rattle.sheets.specs.Form.{limitsOf}
 use lib.ListN.{take}
 use Rattle.rules.specs.Calls.{boundOf}
 use Rattle.child.specs.Own.{judged-seen, judged-new, judged-cut, judged-cut-2}

@@ -1,4 +1,3 @@
-use mathlib.Core.Path.{sym, _∙_}
 use lib.ListN.{take}
 use Rattle.sheets.specs.Form.{limitsOf}
 use Rattle.enter.specs.Ways.{enters-later, answer-good, list-end, list-full, list-more, term-short, term-leaf, term-full, term-applied}

@@ -1,4 +1,3 @@
-use native.Mathlib.Omega.{arith}
 use Rattle.sheets.specs.Form.{limitsOf}
 use Rattle.enter.specs.Marks.{recorded-large, recorded-put}
 use borrow.Author.Needs.{needs}

@@ -1,8 +1,7 @@
 use native.Mathlib.Omega.{arith}
 use borrow.Author.Needs.{needs}
-use mathlib.Core.Path.{sym, _∙_, subst}
+use mathlib.Core.Path.{sym, subst}
 use Prim.Native.Nat.{_+_, _-_, _≤_}
-use lib.ListN.{length}
 use Rattle.rules.specs.Reading.{num}
 use Rattle.texts.specs.Names.{countAt}
 use Rattle.sheets.specs.Form.{limitsOf}

@@ -1,5 +1,4 @@
-use native.Mathlib.Omega.{arith}
-use mathlib.Core.Path.{_≡_, sym, _∙_}
+use mathlib.Core.Path.{sym, _∙_}
 use Rattle.texts.specs.Names.{namesIn}
 use Rattle.mentions.specs.Nodes.{literal-short, literal-fact, literal-same}
 use borrow.Author.Needs.{needs}

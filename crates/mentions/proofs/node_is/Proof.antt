@@ -1,5 +1,4 @@
-use native.Mathlib.Omega.{arith}
-use mathlib.Core.Path.{_≡_, sym, _∙_}
+use mathlib.Core.Path.{sym, _∙_}
 use Rattle.mentions.specs.Nodes.{node-variable, node-other}
 use borrow.Author.Needs.{needs}
 use Rattle.mentions.proofs.node_is.Statement.{statement}

@@ -1,7 +1,7 @@
 -- The child is made, and goes into the lowest free slot.
 use native.Mathlib.Omega.{arith}
 use borrow.Author.Needs.{needs}
-use Prim.Native.Nat.{_+_, _*_, _≤_, _<_}
+use Prim.Native.Nat.{_+_, _*_}
 use lib.ListN.{length}
 use Rattle.rules.specs.Calls.{boundOf}
 use Rattle.sheets.specs.Form.{limitsOf}

@@ -1,5 +1,4 @@
 use native.Mathlib.Omega.{arith}
-use borrow.Author.Needs.{needs}
 use mathlib.Core.Path.{refl}
 use Rattle.running.specs.Verdict.{bound-unknown, bound-none, bound-some}
 use Rattle.running.proofs.known_bound.Statement.{statement}

@@ -1,7 +1,7 @@
 use native.Mathlib.Omega.{arith}
 use borrow.Author.Needs.{needs}
 use mathlib.Core.Path.{subst}
-use Prim.Native.Nat.{_+_, _≤_}
+use Prim.Native.Nat.{_+_}
 use lib.ListN.{length}
 use Rattle.texts.specs.Names.{namesIn}
 use Rattle.texts.specs.Text.{LiteralText}

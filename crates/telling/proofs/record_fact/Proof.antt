@@ -1,6 +1,5 @@
-use native.Mathlib.Omega.{arith}
-use mathlib.Core.Path.{sym, ap, _∙_, subst}
-use Rattle.sheets.specs.Form.{limitsOf, viewOf}
+use mathlib.Core.Path.{sym}
+use Rattle.sheets.specs.Form.{limitsOf}
 use lib.ListN.{take}
 use Rattle.telling.specs.Ways.{fact-full, fact-large, fact-put}
 use borrow.Author.Needs.{needs}

@@ -1,6 +1,4 @@
-use native.Mathlib.Omega.{arith}
-use mathlib.Core.Path.{sym, ap, _∙_, subst}
-use Rattle.sheets.specs.Form.{limitsOf, viewOf}
+use Rattle.sheets.specs.Form.{limitsOf}
 use lib.ListN.{take}
 use Rattle.telling.specs.Ways.{literal-short}
 use borrow.Author.Needs.{needs}

@@ -4,7 +4,6 @@ use Rattle.rules.specs.Reading.{declared}
 use Rattle.numbers.specs.Answers.{value, value-is, value-fault}
 use Rattle.texts.specs.Names.{namesIn}
 use lib.ListN.{length}
-use Rattle.rules.specs.Book.{Names}
 use native.Mathlib.Omega.{arith}
 use mathlib.Core.Path.{sym, ap, _∙_}
 use borrow.Author.Needs.{needs}
