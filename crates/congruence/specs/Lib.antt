@@ -10,4 +10,5 @@ pub mod Way
 pub mod Survivors
 pub mod Depths
 pub mod Merged
+pub mod Within
 pub mod Sound

@@ -1,5 +1,5 @@
 -- The rounds of a merge, by any order: what holds at first and is kept by each round holds at the end, and then no pair is waiting.
--- For each round uses up a pair, or adds one for a key that falls away.
+-- For each round uses up a pair, and adds one for each key that falls away.
 use mathlib.Core.Path.{_≡_, refl, sym, _∙_, subst}
 use Prim.Native.Nat.{ℕ, zero, suc, _+_, _≤_, min, max}
 use native.Mathlib.Omega.{arith}

@@ -15,6 +15,7 @@ use Rattle.soundness.specs.Model.{sound-neat, neat-sound}
 use Rattle.congruence.specs.Forced.{Forced}
 use Rattle.congruence.specs.Images.{entryImage, factImage, Images}
 use Rattle.congruence.specs.Survivors.{survivor, merge-is-congruence, Smallest, survivor-smallest, merge-keys, merge-facts}
+use Rattle.congruence.specs.Within.{CongruenceOn, forced-within}
 use Rattle.congruence.specs.Merged.{Merged, merge-neat, merge-merged, merged-is-merge, merge-any-order, merge-order-free}
 
 module _ (lim : Limits) (d : Names) (m : Model) (t : T (soundModel lim d m)) (a b : ℕ) where
@@ -32,6 +33,15 @@ module _ (lim : Limits) (d : Names) (m : Model) (t : T (soundModel lim d m)) (a 
 
   pub sound-merge-facts : (now : History) → Images (factImage (survivor a b m)) (m .facts) (merge a b m now .0 .facts)
   sound-merge-facts = merge-facts a b m rise
+
+  -- Two elements of the sheet have one survivor exactly when every equivalence on its elements relates them that has the pair and is
+  -- closed under the keys.
+  pub sound-one-survivor : T (known m a) → T (known m b) → (x y : ℕ) → T (known m x)
+      → (survivor a b m x ≡ survivor a b m y) ↔ ((E : ℕ → ℕ → Type 0) → CongruenceOn a b m E → E x y)
+  sound-one-survivor ka kb x y k =
+      let s = sound-merge-is-congruence x y in
+      let w = forced-within lim d m (sound-neat lim d m t) a b ka kb x y k in
+      (λ e. w .0 (s .0 e), λ f. s .1 (w .1 f))
 
   module _ (ka : T (known m a)) (kb : T (known m b)) (now : History) where
     pub sound-merge-sound : T (soundModel lim d (merge a b m now .0))

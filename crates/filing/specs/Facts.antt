@@ -24,7 +24,7 @@ put-high : (e x : ℕ) (xs : List ℕ) → keyOf x < keyOf e → putIn e (x ∷ 
 unfolding putIn
 put-high e x xs h = three-ways (λ (l : List ℕ). l ≡ x ∷ putIn e xs) (keyOf e) (keyOf x) _ _ _ (λ g. absurd (omega arith)) (λ g. absurd (omega arith)) (λ _. refl)
 
--- Of two entries with different keys the lower goes in last or first.
+-- Of two entries with different keys it does not matter which goes in first.
 lower-first : (a b : ℕ) (t : List ℕ) → keyOf a < keyOf b → putIn a (putIn b t) ≡ putIn b (putIn a t)
 unfolding putIn
 lower-first a b [] h = put-low a b [] h ∙ sym (put-high b a [] h)

@@ -1,6 +1,6 @@
 // Two elements become one in each table of a sheet: l, which goes, is renamed to s, which survives, and the table is put in order
-// again and filed anew. Keys stand in front of a slice that has the pairs waiting to be merged at its end; what becomes of two
-// equal keys is one more pair.
+// again and filed anew. Keys stand in front of a slice that has the pairs waiting to be merged at its end; of two keys that
+// become equal one stays, and their values are one more pair.
 use filing::Ends;
 ghost use mathlib.Core.Path.{_≡_};
 ghost use Prim.Native.Nat.{_+_, _≤_, _<_, min};

@@ -1,6 +1,7 @@
 -- Merging with its orders left open: in which order a round files the keys, and in which the pairs then wait. `merge` is merging by
--- one choice of orders (MergeByLaws). The order of the Rust is one of them: keys in the order of the keys before, the newest pair first.
--- That the choice does not bear on the sheet is congruence.Sound.sound-merge-any-order.
+-- one choice of orders (MergeByLaws), and the Rust takes keys and pairs in another: keys in the order of the keys before, the newest
+-- pair first. (It also leaves out pairs of one element, which change nothing here.) That the choice does not bear on the sheet is
+-- congruence.Sound.sound-merge-any-order.
 use mathlib.Core.Path.{_≡_}
 use Prim.Native.Nat.{ℕ, zero, suc, max, min}
 use mathlib.Core.List.{List, [], _∷_, map}
@@ -12,7 +13,7 @@ use Rattle.rules.specs.Sheet.{Entry, Model}
 use Rattle.rules.specs.Bound.{History}
 use Rattle.rules.specs.Merge.{rename, renameEntry, renameFact, Pair, renamePair, refile, refact, mergeDepths, lowered}
 
--- An order may depend on what it orders, and loses and adds nothing.
+-- An order may depend on what it orders: it has no others, none is lost, and there are as many. So has every permutation.
 pub record Reorders {A : Type 0} (f : List A → List A) : Type 1 where
   pub each : (P : A → Type 0) (xs : List A) → All P xs → All P (f xs)
   pub has : (Q : A → Type 0) (xs : List A) → Some Q xs → Some Q (f xs)

@@ -1,4 +1,4 @@
--- Two elements made one in a form: what the four regions and the two counts written over say together.
+-- What one pair's becoming one makes of a form: of its facts, keys, depths and history, and of the two counts.
 use mathlib.Core.Path.{_≡_, refl, sym, ap, ap₂, _∙_, subst}
 use Prim.Native.Nat.{ℕ, _+_, _-_, _≤_, _<_}
 use native.Mathlib.Omega.{arith}

@@ -86,7 +86,7 @@ fn merge_next(w: &mut [u64], le: usize, lk: usize, lf: usize, top: usize) -> usi
     merge_into(w, le, lk, lf, top + 1, y, x)
 }
 
-// The pairs from top on, one after another, with all that follow from them.
+// The pairs from start on, one after another, with all that follow from them.
 fn merge_all(w: &mut [u64], le: usize, lk: usize, lf: usize, start: usize)
     requires { ⌜ Stacked (limitsOf le lk lf) start (now w) ⌝ }
     ensures { λ _. ⌜ AllForm (limitsOf le lk lf) start (now (w .entry)) (now (w .exit)) ⌝ }

@@ -14,14 +14,14 @@ use Rattle.tables.specs.Ways.{Put, past, looked-found, looked-none, put-
 abbrev pub NoneAbove : ℕ → List ℕ → Type 0
 NoneAbove q xs = All (λ y. keyOf y ≤ q) xs
 
--- An entry's key is below a later one's.
+-- An entry's key is below the next one's.
 rising-at : (xs : List ℕ) → Rising xs → (i : ℕ) → suc i < length xs → keyOf (getD xs i 0) < keyOf (getD xs (suc i) 0)
 unfolding Rising
 rising-at [] r i h = absurd (omega arith)
 rising-at (x ∷ xs) r zero h = all-getD (λ y. keyOf x < keyOf y) xs 0 0 (omega arith) (r .0)
 rising-at (x ∷ xs) r (suc i) h = rising-at xs (r .1) i (omega arith)
 
--- The place is the last entry's if that has the key.
+-- A key's place is that of the entry that has it.
 rank-at : (q : ℕ) (xs : List ℕ) → Rising xs → (m : ℕ) → m < length xs → keyOf (getD xs m 0) ≡ q → m ≡ rank q xs
 rank-at q xs r zero h e = let b = rank-below q xs 0 h (omega arith) in omega arith
 rank-at q xs r (suc i) h e =
