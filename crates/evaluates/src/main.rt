@@ -10,12 +10,11 @@
 // or why the record was refused. The last line says how many records there were. A record that ends early or does not fit ends the
 // program with a line that says so.
 use book::check_book;
-use counts::sequent_count;
 use evalforms::evaluate_form;
 use evaluate::Fired;
 use libc::STDOUT_FILENO;
 use numbers::Checked;
-use sheetcheck::sheet_sound;
+use sheetcheck::lone_sound;
 use sheets::limits::ELEMENTS;
 use sheets::limits::FACTS;
 use sheets::limits::FORM;
@@ -26,19 +25,11 @@ ghost use mathlib.Core.Path.{_≡_};
 ghost use Prim.Native.Nat.{_+_, _≤_, _<_};
 ghost use lib.ListN.{length};
 ghost use Rattle.texts.specs.Heads.{ReadAs};
-ghost use Rattle.evaluates.specs.Lone.{lonePlaces, Lone, FiresOn};
+ghost use Rattle.evaluates.specs.Lone.{Lone, FiresOn};
 
 fn say(word: &[u8], x: u64) {
     io::write_all(STDOUT_FILENO, word);
     io::print_decimal(STDOUT_FILENO, x);
-}
-
-// How many places a lone sheet can have.
-fn places(book: &[u8]) -> u64
-    ensures { λ r. ⌜ r ≡ lonePlaces (now (book .entry)) ⌝ }
-{
-    let n = sequent_count(book);
-    if n == 0 { 1 } else { n }
 }
 
 // What fires on a sheet that passed the checks; the choice is left in the environment.
@@ -86,7 +77,7 @@ fn evaluate_sheet(book: &[u8], strategy: u64, slot: &[u8])
 fn check_sheet(book: &[u8], strategy: u64, slot: &[u8])
     requires { ⌜ ReadAs (now book) × (length (now slot) ≡ 2128) ⌝ }
 {
-    if sheet_sound(book, slot, places(book), ELEMENTS, KEYS, FACTS) {
+    if lone_sound(book, slot, ELEMENTS, KEYS, FACTS) {
         evaluate_sheet(book, strategy, slot);
     } else {
         io::write_all(STDOUT_FILENO, b"sheet not sound\n");

@@ -1,39 +1,26 @@
 -- A pool for an accepted book: its names are those of the head, its sequents as many as the count; and the accepted lengths.
-use mathlib.Core.Path.{_≡_, sym, ap, ap₂, _∙_}
-use Prim.Native.Nat.{ℕ, zero, suc, _+_, _-_, _*_, _/_, _≤_, _<_}
+use mathlib.Core.Path.{_≡_, sym, ap₂, _∙_}
+use Prim.Native.Nat.{ℕ, _+_, _-_, _*_, _/_, _≤_, _<_}
 use mathlib.Core.Bool.{Bool, true, false, _&&_}
-use mathlib.Core.List.{List, []}
 use lib.ListN.{length}
 use lib.Dec.{T, leb, eqb, eqb→eq, leb→le}
 use Rattle.base.specs.Branch.{if}
 use Rattle.base.specs.BranchLaws.{and-l, and-r}
 use Rattle.rules.specs.Book.{Book, Names}
-use Rattle.rules.specs.Reading.{Bytes, num, Read, got, many}
+use Rattle.rules.specs.Reading.{Bytes, num}
 use Rattle.rules.specs.Sheet.{limits}
 use Rattle.rules.specs.Fire.{places}
 use Rattle.rules.specs.Pool.{strategyOf}
 use Rattle.rules.specs.Image.{headSize, sheetSize, slotsIn, mostSlots, poolIn}
 use Rattle.rules.specs.Sound.{sound}
 use Rattle.rules.specs.Calls.{rightLength}
-use Rattle.texts.specs.Reads.{then-got, giving-got}
 use Rattle.texts.specs.Names.{namesIn, countAt}
 use Rattle.texts.specs.Heads.{Accepted}
+use Rattle.texts.specs.Texts.{sequents-got}
 use Rattle.sheetparts.specs.Tests.{byteAt}
 use Rattle.sheetparts.specs.Ways.{on, off}
 use Rattle.poolparts.specs.Tests.{frameRight, slotsRight}
 use Rattle.poolcheck.specs.Pools.{pool-test}
-
--- Things read one after another are as many as counted.
-none-got : {A : Type 0} (at : ℕ) (xs : List A) (e : ℕ) → got [] at ≡ got xs e → [] ≡ xs
-none-got at xs e h = cc
-
-many-count : {A : Type 0} (k : ℕ) (f : ℕ → Read A) (at : ℕ) (xs : List A) (e : ℕ) → many k f at ≡ got xs e → length xs ≡ k
-unfolding many
-many-count zero f at xs e h = ap length (sym (none-got at xs e h))
-many-count (suc k) f at xs e h =
-    let t = then-got _ _ _ _ h in
-    let g = giving-got _ _ _ _ (t .after) in
-    ap length (g .is) ∙ ap suc (many-count k f (t .middle) (g .from) e (g .read))
 
 -- A right length is that of a head and of the slots that it has room for.
 pub right-slots : (len : ℕ) → T (rightLength len) → (len ≡ 208 + 2128 * ((len - 208) / 2128)) × ((1 ≤ (len - 208) / 2128) × ((len - 208) / 2128 ≤ 64))
@@ -50,7 +37,7 @@ module _ (book p : Bytes) (n : ℕ) (len : length p ≡ 208 + 2128 * n) (bytes :
   tested : if (frameRight p n) (λ _. slotsRight (namesIn book) spots p n) (λ _. false) ≡ sound limits b p
   unfolding poolIn
   tested =
-      let c : length (b .sequents) ≡ num book (countAt book) = many-count _ _ _ _ _ (ok .read) in
+      let c = sequents-got book b ok .1 in
       ap₂ (λ (d : Names) (k : ℕ). if (frameRight p n) (λ _. slotsRight d (places (strategyOf (byteAt p 6)) k) p n) (λ _. false)) (sym (ok .head .are)) (sym c)
       ∙ pool-test b p n len bytes
 

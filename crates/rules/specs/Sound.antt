@@ -1,5 +1,5 @@
 -- When a pool is sound for a book (01, "The pool"), clause by clause, as a test.
-use Prim.Native.Nat.{ℕ, min, Ordering}
+use Prim.Native.Nat.{ℕ, min, max, Ordering}
 use mathlib.Core.Bool.{Bool, true, false, _&&_, _||_}
 use mathlib.Core.Option.{Option, none, some}
 use mathlib.Core.List.{List, [], _∷_, map}
@@ -13,7 +13,7 @@ use Rattle.rules.specs.Sheet.{keyOrder, Fact, factOrder, Entry, Model, S
 use Rattle.rules.specs.Fire.{places}
 use Rattle.rules.specs.Bound.{depthOver}
 use Rattle.rules.specs.Pool.{State, schedulers, strategies, strategyOf, numbers, sheetAt, sheetsAt, used}
-use Rattle.rules.specs.Image.{poolBytes, poolIn}
+use Rattle.rules.specs.Image.{sheetBytes, sheetIn, poolBytes, poolIn}
 
 -- "Keys and facts rise strictly": each entry is below the next.
 unfoldable pub risingFrom {ℓ} : {A : Type ℓ} → (A → A → Ordering) → A → List A → Bool
@@ -64,7 +64,7 @@ soundModel lim d m =
     && (all (λ (x : Entry). ltb (x .1) (m .created)) (m .keys)
     && (eqb (length (m .depths)) (m .created) && all (depthRight m) (from 0 (m .created)))))))
 
--- A lone sheet, with so many places.
+-- A sheet, with so many places.
 unfoldable pub soundSheet : Limits → Names → ℕ → Sheet → Bool
 soundSheet lim d n x = soundModel lim d (x .model) && ltb (x .place) n
 
@@ -91,3 +91,8 @@ soundState lim b s =
 -- "Image rules hold": the bytes are the image of what they say, mark, version and unused room included.
 unfoldable pub sound : Limits → Book → Bytes → Bool
 sound lim b p = equal (poolBytes lim (poolIn lim p)) p && soundState lim b (poolIn lim p)
+
+-- "A lone sheet is sound by the parts about itself, its place 0 or below the sequent count", whatever the strategy. Image rules hold
+-- for it, too; its number is any.
+unfoldable pub soundLone : Limits → Book → Bytes → Bool
+soundLone lim b s = equal (sheetBytes lim (sheetIn lim s)) s && soundSheet lim (b .names) (max 1 (length (b .sequents))) (sheetIn lim s)

@@ -5,3 +5,4 @@ pub mod Tables
 pub mod Depths
 pub mod Images
 pub mod Sheets
+pub mod Lone

@@ -26,9 +26,9 @@ use Rattle.pools.specs.Tidy.{Listed, placesOf, Tidy}
 use Rattle.pools.specs.Steps.{first-listed}
 use Rattle.demands.specs.Shape.{storable-at}
 use Rattle.demands.specs.Kept.{Roomy}
-use Rattle.texts.specs.Reads.{many-got}
 use Rattle.texts.specs.Names.{namesIn, countAt}
 use Rattle.texts.specs.Heads.{accepted}
+use Rattle.texts.specs.Texts.{sequents-got}
 use Rattle.packing.specs.Pack.{arityOf}
 use Rattle.tables.specs.Table.{Rising}
 use Rattle.tables.specs.Carry.{rising-is, facts-rising-is}
@@ -68,7 +68,7 @@ Stepped text kind number p r p′ = (z : Standing text p) → Went text p z kind
 -- ---- sequents are as many as counted
 
 pub count-is : (text : Bytes) (b : Book) (e : ℕ) → readBook text ≡ got b e → length (b .sequents) ≡ num text (countAt text)
-count-is text b e q = many-got (λ _ _ _. Unit) _ (λ _ _ _ _. tt) _ _ _ _ (accepted text b e q .read) .1
+count-is text b e q = sequents-got text b (accepted text b e q) .1
 
 module _ (text p : Bytes) (z : Standing text p) where
   abbrev s : State

@@ -5,17 +5,14 @@ use borrow.Author.Needs.{needs}
 use Rattle.evaluates.proofs.check_sheet.Statement.{statement}
 use Rattle.evaluates.proofs.check_sheet.Tie as tie
 
-places-requires : tie.Need-places-requires
-places-requires c κs = search needs
-
-sheet-sound-requires : tie.Need-sheet-sound-requires
+lone-sound-requires : tie.Need-lone-sound-requires
 unfolding sheetSize
-sheet-sound-requires c κs = search needs
+lone-sound-requires c κs = search needs
 
 evaluate-sheet-requires : tie.Need-evaluate-sheet-requires
 evaluate-sheet-requires c κs =
-    let s = c .before .before .before .before .before in
-    (lone (s .args .book .now) (s .args .slot .now) (s .pre .0) (λ i. c .before .before .before .shared-slice-known2 .given i .fits) _ (c .before .before .places .ensures) _ (c .before .sheet-sound .ensures) (c .if1 .taken), s .pre .1)
+    let s = c .before .before .before .before in
+    (lone (s .args .book .now) (s .args .slot .now) (s .pre .0) (λ i. c .before .before .shared-slice-known2 .given i .fits) _ (c .before .lone-sound .ensures) (c .if1 .taken), s .pre .1)
 
 slice-aggregate-write-all : tie.Need-slice-aggregate-write-all
 slice-aggregate-write-all c = search needs
@@ -33,8 +30,7 @@ pub check-sheet-spec : {M : Type 1} → statement M
 check-sheet-spec =
     tie.close
     (tie.spec
-    places-requires
-    sheet-sound-requires
+    lone-sound-requires
     evaluate-sheet-requires
     slice-aggregate-write-all
     write-all-requires
