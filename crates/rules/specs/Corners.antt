@@ -1,245 +1,421 @@
--- The one table of computed examples: the P corners of document 01, the corner for lowered depths, and those that the must-fail
--- edits of this crate need. Each case is a run from one waiting sheet; `corners` says that all come out as the table has them.
+-- The table of steps: the P corners of document 01, and behind them a corner for every believable error that we could think of,
+-- each under the name of what it shows. Every row is a run on a pool, and `corners` says that all come out as the table has them,
+-- every list and every slot included. The table of bytes is ByteCorners.
 use mathlib.Core.Path.{_≡_, refl}
 use Prim.Native.Nat.{ℕ}
 use mathlib.Core.List.{List, [], _∷_, map}
-use lib.ListN.{replicate}
-use Rattle.base.specs.Branch.{if, caseO, caseL, three, order}
-use Rattle.base.specs.Lists.{mem, without, firsts, keep, firstOf, from, entries, flat}
-use Rattle.rules.specs.Book.{Term, var, con, app, nil, cons, Literal, fact, same, Disjunct, Sequent, inTerm, inLiteral, appended, completedDisjunct, completed}
-use Rattle.rules.specs.Sheet.{key, Fact, rel, Entry, Model, Limits, limits, empty, blank, find, holds, insertKey, insertFact, domain, known}
-use Rattle.rules.specs.Look.{originMeaning, bodyMeanings, headMeanings, lookMeaning, look, observed}
-use Rattle.rules.specs.Fire.{choices, bodyObserved, disjunctObserved, headObserved, fires, numbered, firing, visits, placeAfter}
-use Rattle.rules.specs.Bound.{Bound, unbounded, domainSize, depthPure, depthReuse, admits, depthOver, depthAt, depthMeaning, depth, termsOf, admitted}
-use Rattle.rules.specs.Merge.{rename, renameEntry, renameFact, insertEntry, inOrder, file, refile, refact, mergeDepths, mergeInto, mergeAll, lowerBy, sum, lower, lowered, merge}
-use Rattle.rules.specs.Child.{add, put, putMeaning, enter, tooBig, recorded, tell, tells, child}
-use Rattle.rules.specs.Pool.{State, schedulerOf, strategyOf, numbers, sheetAt, used, free, changed, freed}
-use Rattle.rules.specs.Step.{placed, stored, openSlots, cutSlots, pushed, schedule, refuse, done, withPlaced, withoutBase, withChildren, stepOn, step, Ran, run}
+use Rattle.base.specs.Lists.{flat}
+use Rattle.rules.specs.Book.{Sequent, fact, same, cons, nil}
+use Rattle.rules.specs.Sheet.{Limits, Model, rel}
+use Rattle.rules.specs.Bound.{unbounded, domainSize, depthPure, depthReuse}
+use Rattle.rules.specs.Pool.{State}
+use Rattle.rules.specs.Cases.{Case, did, a, b, f, g, h, x, y, z, P, R, S, Q, N, constant, function, some-of, plain, exists, rule, always, model, a↦, b↦, c↦, f↦, g↦, h↦, constant↦, function↦, isP, isR, isS, isQ, nothing, just-a, a-and-b, a-is-b, sheet, unused, pool, three-slots, ran, version-1, case, step-on, within, under, freely, completes, fails, opens, bounds, refuses}
 
--- ---- what a case is
+-- ---- the P corners of document 01, in its order and its words
 
--- A sheet of a list with its slot.
-pub record Held : Type 0 where
-  pub slot : ℕ
-  pub number : ℕ
-  pub place : ℕ
-  pub model : Model
+-- [] gives R(f(a)), and the sheet that it leaves.
+abbrev rfa : Sequent
+rfa = always (R (f a) ∷ [])
 
--- How a run ended.
-pub record Shown : Type 0 where
-  pub stop : ℕ
-  pub steps : ℕ
-  pub waiting : List Held
-  pub complete : List Held
-  pub bounded : List Held
-
--- The settings, the number of slots beside slot 0, the book's sequents, the place and model of the sheet that waits in slot 0, and
--- what comes out.
-pub record Case : Type 0 where
-  pub lim : Limits
-  pub budget : ℕ
-  pub scheduler : ℕ
-  pub strategy : ℕ
-  pub others : ℕ
-  pub bound : Bound
-  pub sequents : List Sequent
-  pub place : ℕ
-  pub before : Model
-  pub after : Shown
-
-heldAt : State → List ℕ → List Held
-heldAt s [] = []
-heldAt s (i ∷ is) = record { slot = i; number = sheetAt s i .number; place = sheetAt s i .place; model = sheetAt s i .model } ∷ heldAt s is
-
-shown : Ran → Shown
-unfolding heldAt
-shown r = record {
-  stop = r .stop;
-  steps = r .steps;
-  waiting = heldAt (r .state) (r .state .waiting);
-  complete = heldAt (r .state) (r .state .complete);
-  bounded = heldAt (r .state) (r .state .bounded);
-}
-
-start : Case → State
-start k = record {
-  scheduler = k .scheduler;
-  strategy = k .strategy;
-  next = 1;
-  waiting = 0 ∷ [];
-  complete = [];
-  bounded = [];
-  slots = record { number = 0; place = k .place; model = k .before } ∷ replicate (k .others) blank;
-}
-
--- Its `unfolding` line names every function of a run.
-pub did : Case → Shown
-unfolding if caseO caseL three order mem without firsts keep firstOf from entries flat inTerm inLiteral appended completedDisjunct completed empty blank find holds insertKey insertFact domain known originMeaning bodyMeanings headMeanings lookMeaning look observed choices bodyObserved disjunctObserved headObserved fires numbered firing visits placeAfter admits depthOver depthAt depthMeaning depth termsOf admitted rename renameEntry renameFact insertEntry inOrder file refile refact mergeDepths mergeInto mergeAll lowerBy sum lower lowered merge add put putMeaning enter tooBig recorded tell tells child schedulerOf strategyOf numbers sheetAt used free changed freed placed stored openSlots cutSlots pushed schedule refuse done withPlaced withoutBase withChildren stepOn step run shown start
-did k = shown (run (k .lim) (k .budget) (k .bound) (map completed (k .sequents)) (start k))
-
--- ---- words for the table
-
-R : ℕ → Term → Literal
-R r t = fact r (cons t nil)
-
-R₂ : ℕ → Term → Term → Literal
-R₂ r s t = fact r (cons s (cons t nil))
-
-a : Term
-a = con 0
-
-b : Term
-b = con 1
-
-f : Term → Term
-f t = app 0 (cons t nil)
-
--- A disjunct without existentials, and one with an existential that is constant witness 0.
-plain : List Literal → Disjunct
-plain ls = record { origins = []; literals = ls }
-
-exists : List Literal → Disjunct
-exists ls = record { origins = record { kind = 0; witness = 0; args = [] } ∷ []; literals = ls }
-
-rule : ℕ → List Literal → List Disjunct → Sequent
-rule v bs ds = record { free = v; body = bs; head = ds }
-
-model : ℕ → List Entry → List Fact → List ℕ → Model
-model n ks fs ds = record { created = n; keys = ks; facts = fs; depths = ds }
-
--- The keys of a, b, f(x) and the constant witness 0.
-a↦ : ℕ → Entry
-a↦ v = (key 1 0 [], v)
-
-b↦ : ℕ → Entry
-b↦ v = (key 1 1 [], v)
-
-f↦ : ℕ → ℕ → Entry
-f↦ x v = (key 2 0 (x ∷ []), v)
-
-w↦ : ℕ → Entry
-w↦ v = (key 3 0 [], v)
-
--- One step, FIFO and Linear, over 12 slots.
-one : Bound → Sequent → Model → Shown → Case
-one b r m after = record
-    { lim = limits; budget = 1; scheduler = 0; strategy = 0; others = 11; bound = b; sequents = r ∷ []; place = 0; before = m; after = after }
-
--- One step, Fair, from a place.
-fairly : List Sequent → ℕ → Model → Shown → Case
-fairly rs p m after = record
-    { lim = limits; budget = 1; scheduler = 0; strategy = 1; others = 11; bound = unbounded; sequents = rs; place = p; before = m; after = after }
-
--- One step under a scheduler, with so many slots beside the base's own.
-under : Limits → ℕ → ℕ → Sequent → Model → Shown → Case
-under lim sc n r m after = record
-    { lim = lim; budget = 1; scheduler = sc; strategy = 0; others = n; bound = unbounded; sequents = r ∷ []; place = 0; before = m; after = after }
-
-held : ℕ → ℕ → ℕ → Model → Held
-held i n p m = record { slot = i; number = n; place = p; model = m }
-
--- One step made: the base completed, failed, or left one child, open or bounded.
-completes : Model → Shown
-completes m = record { stop = 0; steps = 1; waiting = []; complete = record { slot = 0; number = 0; place = 0; model = m } ∷ []; bounded = [] }
-
-fails : Shown
-fails = record { stop = 0; steps = 1; waiting = []; complete = []; bounded = [] }
-
-opens : Model → Shown
-opens m = record { stop = 0; steps = 1; waiting = record { slot = 0; number = 1; place = 0; model = m } ∷ []; complete = []; bounded = [] }
-
-bounds : Model → Shown
-bounds m = record { stop = 0; steps = 1; waiting = []; complete = []; bounded = record { slot = 0; number = 1; place = 0; model = m } ∷ [] }
-
-waits : List Held → Shown
-waits hs = record { stop = 0; steps = 1; waiting = hs; complete = []; bounded = [] }
-
-stops : ℕ → Model → Shown
-stops n m = record { stop = n; steps = 0; waiting = record { slot = 0; number = 0; place = 0; model = m } ∷ []; complete = []; bounded = [] }
-
--- Models that several cases share: a and f(a); a and b with R and S.
-a-fa : Model
-unfolding model a↦ f↦
-a-fa = model 2 (a↦ 0 ∷ f↦ 0 1 ∷ []) (rel 0 (1 ∷ []) ∷ []) (0 ∷ 1 ∷ [])
-
-a-b : Model
-unfolding model a↦ b↦
-a-b = model 2 (a↦ 0 ∷ b↦ 1 ∷ []) (rel 1 (0 ∷ []) ∷ rel 2 (1 ∷ []) ∷ []) (0 ∷ 0 ∷ [])
-
-a-b-are-one : List Fact → Model
-unfolding model a↦ b↦
-a-b-are-one fs = model 2 (a↦ 0 ∷ b↦ 0 ∷ []) fs (0 ∷ 0 ∷ [])
-
--- [] gives R(f(a)).
-rfa : Sequent
-unfolding rule plain R f a
-rfa = rule 0 [] (plain (R 0 (f a) ∷ []) ∷ [])
+abbrev a-fa : Model
+a-fa = model 2 (a↦ 0 ∷ f↦ 0 1 ∷ []) (isR 1 ∷ []) (0 ∷ 1 ∷ [])
 
 -- R(x), S(y) gives x = y, P(y).
-joins : Sequent
-unfolding rule plain R
-joins = rule 2 (R 1 (var 0) ∷ R 2 (var 1) ∷ []) (plain (same (var 0) (var 1) ∷ R 0 (var 1) ∷ []) ∷ [])
+abbrev joins : Sequent
+joins = rule 2 (R x ∷ S y ∷ []) (plain (same x y ∷ P y ∷ []) ∷ [])
 
--- [] gives R(a) or S(a).
-either : Sequent
-unfolding rule plain R a
-either = rule 0 [] (plain (R 0 a ∷ []) ∷ plain (R 1 a ∷ []) ∷ [])
+-- [] gives P(a) or R(a).
+abbrev either : Sequent
+either = rule 0 [] (plain (P a ∷ []) ∷ plain (R a ∷ []) ∷ [])
 
-just : ℕ → Model
-unfolding model a↦
-just r = model 1 (a↦ 0 ∷ []) (rel r (0 ∷ []) ∷ []) (0 ∷ [])
-
--- No room for an element.
-none-fits : Limits
-none-fits = record { elements = 0; keys = 128; facts = 128 }
-
--- ---- the table
-
-pub table : List Case
-unfolding R R₂ a b f plain exists rule model a↦ b↦ f↦ w↦ one fairly under held completes fails opens bounds waits stops a-fa a-b a-b-are-one rfa joins either just none-fits limits empty
-table =
-    -- One rule, body and head empty: v = 1 on the empty model completes; v = 0 fails.
-    one unbounded (rule 1 [] []) empty (completes empty)
-    ∷ one unbounded (rule 0 [] []) empty fails
-    -- "v = v", empty model: DomainSize(1) bounded, DomainSize(2) open.
-    ∷ one (domainSize 1) (rule 0 [] (exists [] ∷ [])) empty (bounds empty)
-    ∷ one (domainSize 2) (rule 0 [] (exists [] ∷ [])) empty (opens (model 1 (w↦ 0 ∷ []) [] (0 ∷ [])))
-    -- R(f(a)), empty model: DomainSize(1) open with two elements; Depth 0 bounded, either mode; Depth 1 open.
-    ∷ one (domainSize 1) rfa empty (opens a-fa)
-    ∷ one (depthPure 0) rfa empty (bounds empty)
-    ∷ one (depthReuse 0) rfa empty (bounds empty)
-    ∷ one (depthPure 1) rfa empty (opens a-fa)
-    ∷ one (depthReuse 1) rfa empty (opens a-fa)
-    -- a->0, f(0)->1, a = f(a): both keys ->0, depth 0, next element 2.
-    ∷ one unbounded (rule 0 [] (plain (same a (f a) ∷ []) ∷ [])) (model 2 (a↦ 0 ∷ f↦ 0 1 ∷ []) [] (0 ∷ 1 ∷ []))
-    (opens (model 2 (a↦ 0 ∷ f↦ 0 0 ∷ []) [] (0 ∷ 0 ∷ [])))
-    -- a->0, b->1, f(0)->2, f(1)->3, P(3), a = b: a, b ->0, f(0)->2, P(2), domain 0, 2.
-    ∷ one unbounded (rule 0 [] (plain (same a b ∷ []) ∷ [])) (model 4 (a↦ 0 ∷ b↦ 1 ∷ f↦ 0 2 ∷ f↦ 1 3 ∷ []) (rel 0 (3 ∷ []) ∷ []) (0 ∷ 0 ∷ 1 ∷ 1 ∷ []))
-    (opens (model 4 (a↦ 0 ∷ b↦ 0 ∷ f↦ 0 2 ∷ []) (rel 0 (2 ∷ []) ∷ []) (0 ∷ 0 ∷ 1 ∷ 0 ∷ [])))
-    -- a->0, b->1, R(0), S(1); R(x), S(y) gives x = y, P(y): DomainSize(1) bounded without P; DomainSize(2) open with P(0).
-    ∷ one (domainSize 1) joins a-b (bounds (a-b-are-one (rel 1 (0 ∷ []) ∷ rel 2 (0 ∷ []) ∷ [])))
-    ∷ one (domainSize 2) joins a-b (opens (a-b-are-one (rel 0 (0 ∷ []) ∷ rel 1 (0 ∷ []) ∷ rel 2 (0 ∷ []) ∷ [])))
-    -- P(a) held; [] gives some x P(x): still fires.
-    ∷ one unbounded (rule 0 [] (exists (R 0 (var 0) ∷ []) ∷ [])) (just 0)
-    (opens (model 2 (a↦ 0 ∷ w↦ 1 ∷ []) (rel 0 (0 ∷ []) ∷ rel 0 (1 ∷ []) ∷ []) (0 ∷ 0 ∷ [])))
-    -- Two open children 1, 2, in slots 0 (the base's own) and 1: FIFO next 1, LIFO next 2.
-    ∷ under limits 0 11 either empty (waits (held 0 1 0 (just 0) ∷ held 1 2 0 (just 1) ∷ []))
-    ∷ under limits 1 11 either empty (waits (held 1 2 0 (just 1) ∷ held 0 1 0 (just 0) ∷ []))
-    -- Beyond document 01. Depths are lowered through keys: a->0, f(0)->1, f(1)->2, f(a) = b: b, f(0) ->1, depths 0, 0, 1, next element 4.
-    ∷ one unbounded (rule 0 [] (plain (same (f a) b ∷ []) ∷ [])) (model 3 (a↦ 0 ∷ f↦ 0 1 ∷ f↦ 1 2 ∷ []) [] (0 ∷ 1 ∷ 2 ∷ []))
-    (opens (model 4 (a↦ 0 ∷ b↦ 1 ∷ f↦ 0 1 ∷ f↦ 1 2 ∷ []) [] (0 ∷ 0 ∷ 1 ∷ 0 ∷ [])))
-    -- The first variable is fastest: of the choices (0, 1) and (1, 0), both unequal, the one with x = 1 comes first.
-    ∷ one unbounded (rule 2 (R₂ 1 (var 0) (var 1) ∷ []) (plain (R 0 (var 0) ∷ []) ∷ []))
-    (model 2 (a↦ 0 ∷ b↦ 1 ∷ []) (rel 1 (0 ∷ 1 ∷ []) ∷ rel 1 (1 ∷ 0 ∷ []) ∷ []) (0 ∷ 0 ∷ []))
-    (opens (model 2 (a↦ 0 ∷ b↦ 1 ∷ []) (rel 0 (1 ∷ []) ∷ rel 1 (0 ∷ 1 ∷ []) ∷ rel 1 (1 ∷ 0 ∷ []) ∷ []) (0 ∷ 0 ∷ [])))
-    -- Fair goes on after the sequent that fired, and wraps: from place 1 of 2, where sequent 1 fires, and where only sequent 0 does.
-    ∷ fairly (rule 0 [] (plain (R 0 a ∷ []) ∷ []) ∷ rule 0 [] (plain (R 1 a ∷ []) ∷ []) ∷ []) 1 empty (waits (held 0 1 0 (just 1) ∷ []))
-    ∷ fairly (rule 0 [] (plain (R 0 a ∷ []) ∷ []) ∷ rule 1 [] [] ∷ []) 1 empty (waits (held 0 1 1 (just 0) ∷ []))
-    -- 15 comes before 16: two children that need an element where none fits, and no slot but the base's own.
-    ∷ under none-fits 0 0 either empty (stops 15 empty)
-    ∷ under limits 0 0 either empty (stops 16 empty)
+abbrev pub documents : List Case
+documents =
+    -- "One rule, body and head empty: v = 1 on the empty model completes; v = 0 fails."
+    freely (rule 1 [] []) nothing (completes nothing)
+    ∷ freely (rule 0 [] []) nothing fails
+    -- "'v = v', empty model: DomainSize(1) bounded, DomainSize(2) open."
+    ∷ under (domainSize 1) (rule 0 [] (exists [] ∷ [])) nothing (bounds nothing)
+    ∷ under (domainSize 2) (rule 0 [] (exists [] ∷ [])) nothing (opens (model 1 (constant↦ 0 0 ∷ []) [] (0 ∷ [])))
+    -- "R(f(a)), empty model: DomainSize(1) open with two elements; Depth 0 bounded, either mode; Depth 1 open."
+    ∷ under (domainSize 1) rfa nothing (opens a-fa)
+    ∷ under (depthPure 0) rfa nothing (bounds nothing)
+    ∷ under (depthReuse 0) rfa nothing (bounds nothing)
+    ∷ under (depthPure 1) rfa nothing (opens a-fa)
+    ∷ under (depthReuse 1) rfa nothing (opens a-fa)
+    -- "a->0, f(0)->1, a = f(a): both keys ->0, depth 0, next element 2."
+    ∷ freely (always (same a (f a) ∷ [])) (model 2 (a↦ 0 ∷ f↦ 0 1 ∷ []) [] (0 ∷ 1 ∷ [])) (opens (model 2 (a↦ 0 ∷ f↦ 0 0 ∷ []) [] (0 ∷ 0 ∷ [])))
+    -- "a->0, b->1, f(0)->2, f(1)->3, P(3), a = b: a, b ->0, f(0)->2, P(2), domain 0, 2."
+    ∷ freely (always (same a b ∷ [])) (model 4 (a↦ 0 ∷ b↦ 1 ∷ f↦ 0 2 ∷ f↦ 1 3 ∷ []) (isP 3 ∷ []) (0 ∷ 0 ∷ 1 ∷ 1 ∷ []))
+    (opens (model 4 (a↦ 0 ∷ b↦ 0 ∷ f↦ 0 2 ∷ []) (isP 2 ∷ []) (0 ∷ 0 ∷ 1 ∷ 0 ∷ [])))
+    -- "a->0, b->1, R(0), S(1); R(x), S(y) gives x = y, P(y): DomainSize(1) bounded without P; DomainSize(2) open with P(0)."
+    ∷ under (domainSize 1) joins (a-and-b (isR 0 ∷ isS 1 ∷ [])) (bounds (a-is-b (isR 0 ∷ isS 0 ∷ [])))
+    ∷ under (domainSize 2) joins (a-and-b (isR 0 ∷ isS 1 ∷ [])) (opens (a-is-b (isP 0 ∷ isR 0 ∷ isS 0 ∷ [])))
+    -- "P(a) held; [] gives some x P(x): still fires."
+    ∷ freely (rule 0 [] (exists (P x ∷ []) ∷ [])) (just-a (isP 0 ∷ [])) (opens (model 2 (a↦ 0 ∷ constant↦ 0 1 ∷ []) (isP 0 ∷ isP 1 ∷ []) (0 ∷ 0 ∷ [])))
+    -- "Two open children 1, 2: FIFO next 1, LIFO next 2." They stand in slots 0, the base's own, and 1.
+    ∷ step-on (pool 0 0 1 (0 ∷ []) [] [] (unused ∷ unused ∷ unused ∷ [])) (either ∷ [])
+    (ran 0 1 (pool 0 0 3 (0 ∷ 1 ∷ []) [] [] (sheet 1 0 (just-a (isP 0 ∷ [])) ∷ sheet 2 0 (just-a (isR 0 ∷ [])) ∷ unused ∷ [])))
+    ∷ step-on (pool 1 0 1 (0 ∷ []) [] [] (unused ∷ unused ∷ unused ∷ [])) (either ∷ [])
+    (ran 0 1 (pool 1 0 3 (1 ∷ 0 ∷ []) [] [] (sheet 1 0 (just-a (isP 0 ∷ [])) ∷ sheet 2 0 (just-a (isR 0 ∷ [])) ∷ unused ∷ [])))
     ∷ []
 
+-- ---- firing
+
+-- All literals of a disjunct must be observed: with R(a) held, [] gives R(a), P(a) fires.
+abbrev pub every-literal-counts : Case
+every-literal-counts = freely (always (R a ∷ P a ∷ [])) (just-a (isR 0 ∷ [])) (opens (just-a (isP 0 ∷ isR 0 ∷ [])))
+
+-- One disjunct observed is enough: with R(a) held, [] gives P(a) or R(a) does not fire.
+abbrev pub one-disjunct-is-enough : Case
+one-disjunct-is-enough = freely either (just-a (isR 0 ∷ [])) (completes (just-a (isR 0 ∷ [])))
+
+-- All literals of a body must be observed: with R(a) held, R(x), P(x) gives S(x) does not fire, nor with the two in the other order.
+abbrev pub every-body-literal-counts : Case
+every-body-literal-counts = step-on (three-slots 1 (0 ∷ []) [] [] (sheet 0 0 (just-a (isR 0 ∷ [])) ∷ []))
+    (rule 1 (R x ∷ P x ∷ []) (plain (S x ∷ []) ∷ []) ∷ rule 1 (P x ∷ R x ∷ []) (plain (S x ∷ []) ∷ []) ∷ []) (completes (just-a (isR 0 ∷ [])))
+
+-- An identity is observed if both sides have the same element; two elements are not the same, and no element is not even itself.
+abbrev pub two-are-not-one : Case
+two-are-not-one = freely (rule 0 (same a b ∷ []) []) (a-and-b []) (completes (a-and-b []))
+
+abbrev pub one-is-one : Case
+one-is-one = freely (rule 0 (same a b ∷ []) []) (a-is-b []) fails
+
+abbrev pub unknown-is-not-itself : Case
+unknown-is-not-itself = freely (rule 0 (same (f a) (f a) ∷ []) []) (just-a []) (completes (just-a []))
+
+-- Arguments are terms again: with f(f(a)) an element of P, P(f(f(a))) is observed.
+abbrev pub arguments-are-terms : Case
+arguments-are-terms = freely (rule 0 (P (f (f a)) ∷ []) []) (model 3 (a↦ 0 ∷ f↦ 0 1 ∷ f↦ 1 2 ∷ []) (isP 2 ∷ []) (0 ∷ 1 ∷ 2 ∷ [])) fails
+
+-- Of two sequents that could fire the first does.
+abbrev pub first-sequent-first : Case
+first-sequent-first = step-on (three-slots 1 (0 ∷ []) [] [] []) (always (P a ∷ []) ∷ always (R b ∷ []) ∷ []) (opens (just-a (isP 0 ∷ [])))
+
+-- The domain is in order of first appearance over the keys: of a->1, b->0 the choice x = 1 comes first.
+abbrev pub domain-by-first-appearance : Case
+domain-by-first-appearance = freely (rule 1 (P x ∷ []) (plain (R x ∷ []) ∷ [])) (model 2 (a↦ 1 ∷ b↦ 0 ∷ []) (isP 0 ∷ isP 1 ∷ []) (0 ∷ 0 ∷ []))
+    (opens (model 2 (a↦ 1 ∷ b↦ 0 ∷ []) (isP 0 ∷ isP 1 ∷ isR 1 ∷ []) (0 ∷ 0 ∷ [])))
+
+-- Where the first choice does not fire a later one may.
+abbrev pub later-choices-too : Case
+later-choices-too = freely (rule 1 (P x ∷ []) (plain (R x ∷ []) ∷ [])) (a-and-b (isP 0 ∷ isP 1 ∷ isR 0 ∷ [])) (opens (a-and-b (isP 0 ∷ isP 1 ∷ isR 0 ∷ isR 1 ∷ [])))
+
+-- The first variable is fastest: of the choices (0, 1) and (1, 0), both of two elements, the one with x = 1 comes first.
+abbrev pub first-variable-fastest : Case
+first-variable-fastest = freely (rule 2 (Q x y ∷ []) (plain (P x ∷ []) ∷ [])) (a-and-b (isQ 0 1 ∷ isQ 1 0 ∷ [])) (opens (a-and-b (isP 1 ∷ isQ 0 1 ∷ isQ 1 0 ∷ [])))
+
+-- A function witness stands at its own arguments, in their order: R(x), S(y) gives P of witness 0 at (y, x). That is then observed.
+abbrev by-witness : Sequent
+by-witness = rule 2 (R x ∷ S y ∷ []) (some-of (function (1 ∷ 0 ∷ []) ∷ []) (P z ∷ []) ∷ [])
+
+abbrev by-witness-leaves : Model
+by-witness-leaves = model 3 (a↦ 0 ∷ b↦ 1 ∷ function↦ (1 ∷ 0 ∷ []) 2 ∷ []) (isP 2 ∷ isR 0 ∷ isS 1 ∷ []) (0 ∷ 0 ∷ 1 ∷ [])
+
+abbrev pub witness-at-its-arguments : Case
+witness-at-its-arguments = freely by-witness (a-and-b (isR 0 ∷ isS 1 ∷ [])) (opens by-witness-leaves)
+
+abbrev pub witness-observed : Case
+witness-observed = freely by-witness by-witness-leaves (completes by-witness-leaves)
+
+-- Keys are in order of kind, whatever the order in which they came: [] gives a fact of a function witness, a constant witness, f(a), a.
+abbrev pub keys-by-kind : Case
+keys-by-kind = freely
+    (rule 1 [] (some-of (constant 0 ∷ function (0 ∷ []) ∷ []) (fact 5 (cons z (cons y (cons (f a) (cons a nil)))) ∷ []) ∷ []))
+    (model 1 (b↦ 0 ∷ []) [] (0 ∷ []))
+    (opens (model 5 (a↦ 3 ∷ b↦ 0 ∷ f↦ 3 4 ∷ constant↦ 0 2 ∷ function↦ (0 ∷ []) 1 ∷ []) (rel 5 (1 ∷ 2 ∷ 4 ∷ 3 ∷ []) ∷ []) (0 ∷ 1 ∷ 0 ∷ 0 ∷ 1 ∷ [])))
+
+-- Fair goes on after the sequent that fired, and wraps: from place 1 of 2, where sequent 1 fires, and where only sequent 0 does.
+abbrev pub fair-starts-at-its-place : Case
+fair-starts-at-its-place = step-on (pool 0 1 1 (0 ∷ []) [] [] (sheet 0 1 nothing ∷ [])) (always (P a ∷ []) ∷ always (R a ∷ []) ∷ [])
+    (ran 0 1 (pool 0 1 2 (0 ∷ []) [] [] (sheet 1 0 (just-a (isR 0 ∷ [])) ∷ [])))
+
+abbrev pub fair-wraps : Case
+fair-wraps = step-on (pool 0 1 1 (0 ∷ []) [] [] (sheet 0 1 nothing ∷ [])) (always (P a ∷ []) ∷ rule 1 [] [] ∷ [])
+    (ran 0 1 (pool 0 1 2 (0 ∷ []) [] [] (sheet 1 1 (just-a (isP 0 ∷ [])) ∷ [])))
+
+abbrev pub firings : List Case
+firings = every-literal-counts ∷ one-disjunct-is-enough ∷ every-body-literal-counts ∷ two-are-not-one ∷ one-is-one ∷ unknown-is-not-itself
+    ∷ arguments-are-terms ∷ first-sequent-first ∷ domain-by-first-appearance ∷ later-choices-too ∷ first-variable-fastest
+    ∷ witness-at-its-arguments ∷ witness-observed ∷ keys-by-kind ∷ fair-starts-at-its-place ∷ fair-wraps ∷ []
+
+-- ---- the bound
+
+-- A known term is not counted: with a held, Q(a, b) puts b alone to DomainSize(2), at size 1.
+abbrev pub known-not-counted : Case
+known-not-counted = under (domainSize 2) (always (Q a b ∷ [])) (just-a []) (opens (a-and-b (isQ 0 1 ∷ [])))
+
+-- Equal terms count each time: Q(a, a) is cut under DomainSize(1).
+abbrev pub equal-terms-count-each : Case
+equal-terms-count-each = under (domainSize 1) (always (Q a a ∷ [])) nothing (bounds nothing)
+
+-- The size is the child's at that literal, not the base's: of P(a), R(b) under DomainSize(1) the second is cut.
+abbrev pub size-at-the-literal : Case
+size-at-the-literal = under (domainSize 1) (always (P a ∷ R b ∷ [])) nothing (bounds (just-a (isP 0 ∷ [])))
+
+-- A depth is by the greatest argument, wherever it stands: h(a, f(a)) and h(f(a), a) have depth 2.
+abbrev pub greatest-argument : Case
+greatest-argument = under (depthPure 1) (always (P (h a (f a)) ∷ R (h (f a) a) ∷ [])) nothing (bounds nothing)
+
+-- A constant witness has depth 0.
+abbrev pub constant-witness-is-shallow : Case
+constant-witness-is-shallow = under (depthPure 0) (rule 0 [] (exists (P x ∷ []) ∷ [])) nothing (opens (model 1 (constant↦ 0 0 ∷ []) (isP 0 ∷ []) (0 ∷ [])))
+
+-- a->0, f(0)->1, f(1)->2, g(1)->3, P(2), R(3). After x = y, y has been merged away and has its survivor's depth, which is 2: it is
+-- beyond Depth 1, and function witness 0 at y is beyond Depth 2.
+abbrev two-deep : Model
+two-deep = model 4 (a↦ 0 ∷ f↦ 0 1 ∷ f↦ 1 2 ∷ g↦ 1 3 ∷ []) (isP 2 ∷ isR 3 ∷ []) (0 ∷ 1 ∷ 2 ∷ 2 ∷ [])
+
+abbrev two-deep-joined : Model
+two-deep-joined = model 4 (a↦ 0 ∷ f↦ 0 1 ∷ f↦ 1 2 ∷ g↦ 1 2 ∷ []) (isP 2 ∷ isR 2 ∷ []) (0 ∷ 1 ∷ 2 ∷ 0 ∷ [])
+
+abbrev pub survivor-depth : Case
+survivor-depth = under (depthPure 1) (rule 2 (P x ∷ R y ∷ []) (plain (same x y ∷ P y ∷ R y ∷ []) ∷ [])) two-deep (bounds two-deep-joined)
+
+abbrev pub survivor-depth-in-a-witness : Case
+survivor-depth-in-a-witness = under (depthPure 2) (rule 2 (P x ∷ R y ∷ []) (some-of (function (1 ∷ []) ∷ []) (same x y ∷ P z ∷ []) ∷ [])) two-deep (bounds two-deep-joined)
+
+-- A known inner term has its element's depth, not its height: with a->0, b->1, f(0)->1 the depth of g(f(a)) is 1.
+abbrev pub known-inside-by-its-element : Case
+known-inside-by-its-element = under (depthPure 1) (always (P (g (f a)) ∷ [])) (model 2 (a↦ 0 ∷ b↦ 1 ∷ f↦ 0 1 ∷ []) [] (0 ∷ 0 ∷ []))
+    (opens (model 3 (a↦ 0 ∷ b↦ 1 ∷ f↦ 0 1 ∷ g↦ 1 2 ∷ []) (isP 2 ∷ []) (0 ∷ 0 ∷ 1 ∷ [])))
+
+-- A term over an element merged away is unknown, though the same term over its survivor is held: of x = y, P(f(y)) the second is cut
+-- under Depth 0.
+abbrev pub over-merged-away-is-unknown : Case
+over-merged-away-is-unknown = under (depthPure 0) (rule 2 (R x ∷ S y ∷ []) (plain (same x y ∷ P (f y) ∷ []) ∷ []))
+    (model 3 (a↦ 0 ∷ b↦ 1 ∷ f↦ 0 2 ∷ []) (isR 0 ∷ isS 1 ∷ []) (0 ∷ 0 ∷ 1 ∷ []))
+    (bounds (model 3 (a↦ 0 ∷ b↦ 0 ∷ f↦ 0 2 ∷ []) (isR 0 ∷ isS 0 ∷ []) (0 ∷ 0 ∷ 1 ∷ [])))
+
+abbrev pub boundings : List Case
+boundings = known-not-counted ∷ equal-terms-count-each ∷ size-at-the-literal ∷ greatest-argument ∷ constant-witness-is-shallow ∷ survivor-depth
+    ∷ survivor-depth-in-a-witness ∷ known-inside-by-its-element ∷ over-merged-away-is-unknown ∷ []
+
+-- ---- merging
+
+-- Depths are lowered through keys: a->0, f(0)->1, f(1)->2, f(a) = b: b, f(0) ->1, depths 0, 0, 1, next element 4.
+abbrev pub depths-fall : Case
+depths-fall = freely (always (same (f a) b ∷ [])) (model 3 (a↦ 0 ∷ f↦ 0 1 ∷ f↦ 1 2 ∷ []) [] (0 ∷ 1 ∷ 2 ∷ []))
+    (opens (model 4 (a↦ 0 ∷ b↦ 1 ∷ f↦ 0 1 ∷ f↦ 1 2 ∷ []) [] (0 ∷ 0 ∷ 1 ∷ 0 ∷ [])))
+
+-- Until none falls: a->0, g(0)->3, f(3)->2, f(2)->1, g(a) = b: the key of element 1 stands before that of 2, so one pass is not enough.
+abbrev pub depths-fall-again : Case
+depths-fall-again = freely (always (same (g a) b ∷ [])) (model 4 (a↦ 0 ∷ f↦ 2 1 ∷ f↦ 3 2 ∷ g↦ 0 3 ∷ []) [] (0 ∷ 3 ∷ 2 ∷ 1 ∷ []))
+    (opens (model 5 (a↦ 0 ∷ b↦ 3 ∷ f↦ 2 1 ∷ f↦ 3 2 ∷ g↦ 0 3 ∷ []) [] (0 ∷ 2 ∷ 1 ∷ 0 ∷ 0 ∷ [])))
+
+-- One merge may bring two: a = b with f and g of both.
+abbrev pub two-keys-at-once : Case
+two-keys-at-once = freely (always (same a b ∷ [])) (model 6 (a↦ 0 ∷ b↦ 1 ∷ f↦ 0 2 ∷ f↦ 1 3 ∷ g↦ 0 4 ∷ g↦ 1 5 ∷ []) [] (0 ∷ 0 ∷ 1 ∷ 1 ∷ 1 ∷ 1 ∷ []))
+    (opens (model 6 (a↦ 0 ∷ b↦ 0 ∷ f↦ 0 2 ∷ g↦ 0 4 ∷ []) [] (0 ∷ 0 ∷ 1 ∷ 0 ∷ 1 ∷ 0 ∷ [])))
+
+-- And one after another: a = b with f and f(f) of both.
+abbrev pub keys-one-after-another : Case
+keys-one-after-another = freely (always (same a b ∷ []))
+    (model 6 (a↦ 0 ∷ b↦ 1 ∷ f↦ 0 2 ∷ f↦ 1 3 ∷ f↦ 2 4 ∷ f↦ 3 5 ∷ []) [] (0 ∷ 0 ∷ 1 ∷ 1 ∷ 2 ∷ 2 ∷ []))
+    (opens (model 6 (a↦ 0 ∷ b↦ 0 ∷ f↦ 0 2 ∷ f↦ 2 4 ∷ []) [] (0 ∷ 0 ∷ 1 ∷ 0 ∷ 2 ∷ 0 ∷ [])))
+
+-- Pairs that wait are renamed with the rest: f(0)->2 and g(0)->3 both meet 5, so that 2 and 3 become one.
+abbrev pub waiting-pairs-renamed : Case
+waiting-pairs-renamed = freely (always (same a b ∷ []))
+    (model 6 (a↦ 0 ∷ b↦ 1 ∷ f↦ 0 2 ∷ f↦ 1 5 ∷ g↦ 0 3 ∷ g↦ 1 5 ∷ []) [] (0 ∷ 0 ∷ 1 ∷ 1 ∷ 0 ∷ 1 ∷ []))
+    (opens (model 6 (a↦ 0 ∷ b↦ 0 ∷ f↦ 0 2 ∷ g↦ 0 2 ∷ []) [] (0 ∷ 0 ∷ 1 ∷ 0 ∷ 0 ∷ 0 ∷ [])))
+
+-- An element merged away twice over is recorded as its last survivor: after y = z and x = y, S(z) is S(0).
+abbrev pub survivor-of-a-survivor : Case
+survivor-of-a-survivor = freely (rule 3 (P x ∷ R y ∷ Q z z ∷ []) (plain (same y z ∷ same x y ∷ S z ∷ []) ∷ []))
+    (model 3 (a↦ 0 ∷ b↦ 1 ∷ c↦ 2 ∷ []) (isP 0 ∷ isR 1 ∷ isQ 2 2 ∷ []) (0 ∷ 0 ∷ 0 ∷ []))
+    (opens (model 3 (a↦ 0 ∷ b↦ 0 ∷ c↦ 0 ∷ []) (isP 0 ∷ isR 0 ∷ isS 0 ∷ isQ 0 0 ∷ []) (0 ∷ 0 ∷ 0 ∷ [])))
+
+-- Keys and facts are put in order anew, and facts that became equal are one: a = b with h(0, 2), h(1, 1), Q(0, 2), Q(1, 1), Q(1, 2).
+abbrev pub renamed-in-order : Case
+renamed-in-order = freely (always (same a b ∷ []))
+    (model 5 (a↦ 0 ∷ b↦ 1 ∷ c↦ 2 ∷ h↦ 0 2 3 ∷ h↦ 1 1 4 ∷ []) (isQ 0 2 ∷ isQ 1 1 ∷ isQ 1 2 ∷ []) (0 ∷ 0 ∷ 0 ∷ 1 ∷ 1 ∷ []))
+    (opens (model 5 (a↦ 0 ∷ b↦ 0 ∷ c↦ 2 ∷ h↦ 0 0 4 ∷ h↦ 0 2 3 ∷ []) (isQ 0 0 ∷ isQ 0 2 ∷ []) (0 ∷ 0 ∷ 0 ∷ 1 ∷ 1 ∷ [])))
+
+abbrev pub mergings : List Case
+mergings = depths-fall ∷ depths-fall-again ∷ two-keys-at-once ∷ keys-one-after-another ∷ waiting-pairs-renamed ∷ survivor-of-a-survivor ∷ renamed-in-order ∷ []
+
+-- ---- recording
+
+-- A witness's arguments are recorded as their survivors: after x = y the witness at y stands at x.
+abbrev pub arguments-as-survivors : Case
+arguments-as-survivors = freely (rule 2 (P x ∷ R y ∷ []) (some-of (function (1 ∷ []) ∷ []) (same x y ∷ S z ∷ []) ∷ [])) (a-and-b (isP 0 ∷ isR 1 ∷ []))
+    (opens (model 3 (a↦ 0 ∷ b↦ 0 ∷ function↦ (0 ∷ []) 2 ∷ []) (isP 0 ∷ isR 0 ∷ isS 2 ∷ []) (0 ∷ 0 ∷ 1 ∷ [])))
+
+-- Terms are recorded from left to right: Q(b, a) makes b 0 and a 1; of f(a) = b the first side comes first.
+abbrev pub left-to-right : Case
+left-to-right = freely (always (Q b a ∷ [])) nothing (opens (model 2 (a↦ 1 ∷ b↦ 0 ∷ []) (isQ 0 1 ∷ []) (0 ∷ 0 ∷ [])))
+
+abbrev pub first-side-first : Case
+first-side-first = freely (always (same (f a) b ∷ [])) nothing (opens (model 3 (a↦ 0 ∷ b↦ 1 ∷ f↦ 0 1 ∷ []) [] (0 ∷ 0 ∷ 0 ∷ [])))
+
+-- A literal that is skipped does not end the child: under Depth 0, P(f(a)) is skipped and R(b) recorded.
+abbrev pub after-a-skipped-literal : Case
+after-a-skipped-literal = under (depthPure 0) (always (P (f a) ∷ R b ∷ [])) nothing (bounds (model 1 (b↦ 0 ∷ []) (isR 0 ∷ []) (0 ∷ [])))
+
+-- What is appended comes behind the others: [] gives some x with P(a) makes a 0 and x 1.
+abbrev pub appended-behind : Case
+appended-behind = freely (rule 0 [] (exists (P a ∷ []) ∷ [])) nothing (opens (model 2 (a↦ 0 ∷ constant↦ 0 1 ∷ []) (isP 0 ∷ []) (0 ∷ 0 ∷ [])))
+
+-- And only for an existential that is in no literal, be it in a later term, inside a term or on the second side: under Depth 0 the one
+-- literal is cut, and nothing is recorded.
+abbrev pub not-appended : Case
+not-appended = under (depthPure 0) (rule 0 [] (exists (Q (f b) x ∷ []) ∷ [])) nothing (bounds nothing)
+
+abbrev pub not-appended-for-inner : Case
+not-appended-for-inner = under (depthPure 0) (rule 0 [] (exists (Q b (f x) ∷ []) ∷ [])) nothing (bounds nothing)
+
+abbrev pub not-appended-for-a-side : Case
+not-appended-for-a-side = under (depthPure 0) (rule 0 [] (exists (same (f b) x ∷ []) ∷ [])) nothing (bounds nothing)
+
+-- Existential j is variable v + j, and what is appended is in origin order: with one free variable, P of the second of three.
+abbrev pub existentials-behind-the-free : Case
+existentials-behind-the-free = freely (rule 1 [] (some-of (constant 0 ∷ constant 1 ∷ constant 2 ∷ []) (P z ∷ []) ∷ [])) (just-a [])
+    (opens (model 4 (a↦ 0 ∷ constant↦ 0 2 ∷ constant↦ 1 1 ∷ constant↦ 2 3 ∷ []) (isP 1 ∷ []) (0 ∷ 0 ∷ 0 ∷ 0 ∷ [])))
+
+abbrev pub recordings : List Case
+recordings = arguments-as-survivors ∷ left-to-right ∷ first-side-first ∷ after-a-skipped-literal ∷ appended-behind ∷ not-appended
+    ∷ not-appended-for-inner ∷ not-appended-for-a-side ∷ existentials-behind-the-free ∷ []
+
+-- ---- limits
+
+abbrev room : ℕ → ℕ → ℕ → Limits
+room e k f = record { elements = e; keys = k; facts = f }
+
+-- One element, one key and one fact pass where there is room for one; one less of any is 15.
+abbrev pub just-room : Case
+just-room = within (room 1 1 1) unbounded (always (P a ∷ [])) nothing (opens (just-a (isP 0 ∷ [])))
+
+abbrev pub an-element-too-many : Case
+an-element-too-many = within (room 0 1 1) unbounded (always (P a ∷ [])) nothing (refuses 15 nothing)
+
+abbrev pub a-key-too-many : Case
+a-key-too-many = within (room 1 0 1) unbounded (always (P a ∷ [])) nothing (refuses 15 nothing)
+
+abbrev pub a-fact-too-many : Case
+a-fact-too-many = within (room 1 1 0) unbounded (always (P a ∷ [])) nothing (refuses 15 nothing)
+
+-- An identity needs room, too.
+abbrev pub an-identity-needs-room : Case
+an-identity-needs-room = within (room 1 2 0) unbounded (always (same a b ∷ [])) nothing (refuses 15 nothing)
+
+-- At any moment: R(a), R(b), a = b needs room for two facts, though it leaves one.
+abbrev pub at-any-moment : Case
+at-any-moment = within (room 2 2 1) unbounded (always (R a ∷ R b ∷ same a b ∷ [])) nothing (refuses 15 nothing)
+
+-- A bounded child needs room, too, and so does the last one.
+abbrev pub a-bounded-child-too-big : Case
+a-bounded-child-too-big = within (room 0 1 1) (depthPure 0) (always (P a ∷ P (f a) ∷ [])) nothing (refuses 15 nothing)
+
+abbrev pub the-last-child-too-big : Case
+the-last-child-too-big = within (room 0 1 1) unbounded (rule 0 [] (plain (N ∷ []) ∷ plain (P a ∷ []) ∷ [])) nothing (refuses 15 nothing)
+
+-- A pool with one slot: the base's own is room for one child, and two are 16; where they are too big, too, 15.
+abbrev one-slot : ℕ → State
+one-slot n = pool 0 0 n (0 ∷ []) [] [] (unused ∷ [])
+
+abbrev pub the-base-leaves-its-slot : Case
+the-base-leaves-its-slot = step-on (one-slot 1) (always (P a ∷ []) ∷ []) (ran 0 1 (pool 0 0 2 (0 ∷ []) [] [] (sheet 1 0 (just-a (isP 0 ∷ [])) ∷ [])))
+
+abbrev pub no-slot-for-two : Case
+no-slot-for-two = step-on (one-slot 1) (either ∷ []) (ran 16 0 (one-slot 1))
+
+abbrev pub fifteen-before-sixteen : Case
+fifteen-before-sixteen = case (room 0 1 1) 1 unbounded (either ∷ []) (one-slot 1) (ran 15 0 (one-slot 1))
+
+-- 65,535 is given out and then numbers are used up; two children are then 17, where there is a slot for both, and else 16.
+abbrev pub the-last-number : Case
+the-last-number = step-on (one-slot 65535) (always (P a ∷ []) ∷ []) (ran 0 1 (pool 0 0 65536 (0 ∷ []) [] [] (sheet 65535 0 (just-a (isP 0 ∷ [])) ∷ [])))
+
+abbrev pub no-number-for-two : Case
+no-number-for-two = step-on (three-slots 65535 (0 ∷ []) [] [] []) (either ∷ []) (ran 17 0 (three-slots 65535 (0 ∷ []) [] [] []))
+
+abbrev pub sixteen-before-seventeen : Case
+sixteen-before-seventeen = step-on (one-slot 65535) (either ∷ []) (ran 16 0 (one-slot 65535))
+
+-- A base that completes or fails needs no number.
+abbrev pub no-number-needed : Case
+no-number-needed = step-on (one-slot 65536) [] (ran 0 1 (pool 0 0 65536 [] (0 ∷ []) [] (unused ∷ [])))
+
+abbrev pub limitations : List Case
+limitations = just-room ∷ an-element-too-many ∷ a-key-too-many ∷ a-fact-too-many ∷ an-identity-needs-room ∷ at-any-moment ∷ a-bounded-child-too-big
+    ∷ the-last-child-too-big ∷ the-base-leaves-its-slot ∷ no-slot-for-two ∷ fifteen-before-sixteen ∷ the-last-number ∷ no-number-for-two
+    ∷ sixteen-before-seventeen ∷ no-number-needed ∷ []
+
+-- ---- lists, slots and numbers
+
+-- With another sheet waiting, in slot 1: FIFO puts both children behind it, LIFO each before it.
+abbrev two-wait : ℕ → State
+two-wait sc = pool sc 0 2 (0 ∷ 1 ∷ []) [] [] (unused ∷ sheet 1 0 (just-a []) ∷ unused ∷ [])
+
+abbrev two-waited : ℕ → List ℕ → State
+two-waited sc w = pool sc 0 4 w [] [] (sheet 2 0 (just-a (isP 0 ∷ [])) ∷ sheet 1 0 (just-a []) ∷ sheet 3 0 (just-a (isR 0 ∷ [])) ∷ [])
+
+abbrev pub fifo-behind-the-waiting : Case
+fifo-behind-the-waiting = step-on (two-wait 0) (either ∷ []) (ran 0 1 (two-waited 0 (1 ∷ 0 ∷ 2 ∷ [])))
+
+abbrev pub lifo-before-the-waiting : Case
+lifo-before-the-waiting = step-on (two-wait 1) (either ∷ []) (ran 0 1 (two-waited 1 (2 ∷ 0 ∷ 1 ∷ [])))
+
+-- A base that fails is dropped, its slot zero again; the others wait on.
+abbrev pub a-failed-base-is-gone : Case
+a-failed-base-is-gone = step-on (pool 0 0 2 (1 ∷ 0 ∷ []) [] [] (unused ∷ sheet 1 0 (just-a (isP 0 ∷ [])) ∷ [])) (rule 1 (P x ∷ []) [] ∷ [])
+    (ran 0 1 (pool 0 0 2 (0 ∷ []) [] [] (unused ∷ unused ∷ [])))
+
+-- The other two lists grow at the back, and a complete base keeps its slot, its number and its place.
+abbrev pub complete-at-the-back : Case
+complete-at-the-back = step-on (pool 0 1 2 (0 ∷ []) (1 ∷ []) [] (sheet 0 1 nothing ∷ sheet 1 0 (just-a []) ∷ [])) (rule 1 [] [] ∷ rule 1 [] [] ∷ [])
+    (ran 0 1 (pool 0 1 2 [] (1 ∷ 0 ∷ []) [] (sheet 0 1 nothing ∷ sheet 1 0 (just-a []) ∷ [])))
+
+-- A bounded child gets the place that an open one would.
+abbrev pub bounded-at-the-back : Case
+bounded-at-the-back = case version-1 1 (depthPure 0) (always (P (f a) ∷ []) ∷ always (N ∷ []) ∷ [])
+    (pool 0 1 2 (0 ∷ []) [] (1 ∷ []) (unused ∷ sheet 1 0 (just-a []) ∷ []))
+    (ran 0 1 (pool 0 1 3 [] [] (1 ∷ 0 ∷ []) (sheet 2 1 nothing ∷ sheet 1 0 (just-a []) ∷ [])))
+
+-- Numbers follow the disjuncts, open and bounded alike.
+abbrev pub numbers-by-disjunct : Case
+numbers-by-disjunct = under (depthPure 0) (rule 0 [] (plain (P (f a) ∷ []) ∷ plain (R a ∷ []) ∷ [])) nothing
+    (ran 0 1 (three-slots 3 (1 ∷ []) [] (0 ∷ []) (sheet 1 0 nothing ∷ sheet 2 0 (just-a (isR 0 ∷ [])) ∷ [])))
+
+-- The lowest free slot first, freed ones too: the base stands in slot 1, slot 0 is used; and the base stands in slot 2, slot 0 is free.
+abbrev pub from-the-base's-slot : Case
+from-the-base's-slot = step-on (pool 0 0 2 (1 ∷ []) (0 ∷ []) [] (sheet 1 0 (just-a []) ∷ unused ∷ unused ∷ [])) (either ∷ [])
+    (ran 0 1 (pool 0 0 4 (1 ∷ 2 ∷ []) (0 ∷ []) [] (sheet 1 0 (just-a []) ∷ sheet 2 0 (just-a (isP 0 ∷ [])) ∷ sheet 3 0 (just-a (isR 0 ∷ [])) ∷ [])))
+
+abbrev pub from-the-lowest-slot : Case
+from-the-lowest-slot = step-on (pool 0 0 2 (2 ∷ []) [] (1 ∷ []) (unused ∷ sheet 1 0 (just-a []) ∷ unused ∷ [])) (either ∷ [])
+    (ran 0 1 (pool 0 0 4 (0 ∷ 2 ∷ []) [] (1 ∷ []) (sheet 2 0 (just-a (isP 0 ∷ [])) ∷ sheet 1 0 (just-a []) ∷ sheet 3 0 (just-a (isR 0 ∷ [])) ∷ [])))
+
+abbrev pub listings : List Case
+listings = fifo-behind-the-waiting ∷ lifo-before-the-waiting ∷ a-failed-base-is-gone ∷ complete-at-the-back ∷ bounded-at-the-back ∷ numbers-by-disjunct
+    ∷ from-the-base's-slot ∷ from-the-lowest-slot ∷ []
+
+-- ---- runs
+
+-- Without a budget nothing happens; where nothing waits it is 14; a spent budget is asked first.
+abbrev pub no-budget : Case
+no-budget = case version-1 0 unbounded (either ∷ []) (one-slot 1) (ran 0 0 (one-slot 1))
+
+abbrev pub nothing-waits : Case
+nothing-waits = case version-1 1 unbounded [] (three-slots 1 [] (0 ∷ []) [] []) (ran 14 0 (three-slots 1 [] (0 ∷ []) [] []))
+
+abbrev pub until-nothing-waits : Case
+until-nothing-waits = case version-1 9 unbounded (always (P a ∷ []) ∷ []) (one-slot 1) (ran 14 2 (pool 0 0 2 [] (0 ∷ []) [] (sheet 1 0 (just-a (isP 0 ∷ [])) ∷ [])))
+
+-- A run that is stopped keeps its steps: the second of these, which needs a second element, is 15.
+abbrev pub a-stopped-run-keeps-its-steps : Case
+a-stopped-run-keeps-its-steps = case (room 1 9 9) 9 unbounded (always (P a ∷ []) ∷ always (R b ∷ []) ∷ []) (one-slot 1)
+    (ran 15 1 (pool 0 0 2 (0 ∷ []) [] [] (sheet 1 0 (just-a (isP 0 ∷ [])) ∷ [])))
+
+abbrev pub runs : List Case
+runs = no-budget ∷ nothing-waits ∷ until-nothing-waits ∷ a-stopped-run-keeps-its-steps ∷ []
+
+-- ---- the claim
+
+abbrev pub table : List Case
+table = flat (documents ∷ firings ∷ boundings ∷ mergings ∷ recordings ∷ limitations ∷ listings ∷ runs ∷ [])
+
 pub corners : map did table ≡ map (λ (k : Case). k .after) table
-unfolding did table
+unfolding did flat
 corners = refl

@@ -13,4 +13,6 @@ pub mod Image
 pub mod Sound
 pub mod Calls
 pub mod Arrangement
+pub mod Cases
 pub mod Corners
+pub mod ByteCorners
