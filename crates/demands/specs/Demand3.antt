@@ -84,7 +84,7 @@ module _ (book : Bytes) (b : Book) (e : ℕ) (r : readBook book ≡ got b e) whe
   begun-inv : (pool : Bytes) (sc st : ℕ) → openCall book pool sc st .answer ≡ 0 → Inv b (begun (openCall book pool sc st .pool))
   unfolding openCall outcome begun
   begun-inv pool sc st =
-      checked-elim (λ (o : Outcome). o .answer ≡ 0 → Inv b (begun (o .pool))) book pool _ _ _ (λ n l z. absurd (omega arith)) (λ b′ p z.
+      checked-elim (λ (o : Outcome). o .answer ≡ 0 → Inv b (begun (o .pool))) book pool _ _ _ (λ n l z. absurd (omega (arith, l .some))) (λ b′ p z.
       let n = slotsIn limits (length pool) in
       let w = fits-roomy pool (p .length-right) in
       let k = slots-are pool in
@@ -179,7 +179,7 @@ module _ (book : Bytes) (b : Book) (e : ℕ) (r : readBook book ≡ got b e) whe
       → Inv b (took (takeCall book (w .pool) list out .answer) list (takeCall book (w .pool) list out .pool) (takeCall book (w .pool) list out .out) w)
   unfolding takeCall takeOutcome
   take-inv w list out i =
-      soundly-of (λ (o : TakeOutcome). Inv b (took (o .answer) list (o .pool) (o .out) w)) book (w .pool) _ _ _ b e r (λ n l. took-none w n list out l i) (λ l k t.
+      soundly-of (λ (o : TakeOutcome). Inv b (took (o .answer) list (o .pool) (o .out) w)) book (w .pool) _ _ _ b e r (λ n l. took-none w n list out (l .some) i) (λ l k t.
       caseL-elim (λ (o : TakeOutcome). Inv b (took (o .answer) list (o .pool) (o .out) w)) _ _ _ (λ _. took-none w 18 list out (omega arith) i) (λ j js q.
       if-elim (λ (o : TakeOutcome). Inv b (took (o .answer) list (o .pool) (o .out) w)) _ _ _ (λ _. took-none w 19 list out (omega arith) i) (λ _.
       took-one w list _ _ (took-inv w i (fits-roomy (w .pool) l) (sound-tidy b (w .pool) t) out j js list q))))

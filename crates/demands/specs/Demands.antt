@@ -1,31 +1,33 @@
 -- The three demands on one page, over the promises of the public calls (rules.Calls). The proofs stand in the files beside this one.
+-- All here is a theorem about document 01's rules as `rules` defines them, and every exported call is proved to have its promise. That
+-- these rules give the sheets, order and standing of the Rust, which demand 2 also asks for, is no theorem: it is shown by running both
+-- (docs/JUDGE.md).
 use mathlib.Core.Path.{_≡_}
 use Prim.Native.Nat.{ℕ}
-use mathlib.Core.Logic.{_⊎_}
 use mathlib.Core.List.{List}
 use lib.Dec.{T}
 use Rattle.rules.specs.Book.{Book, rules}
 use Rattle.rules.specs.Reading.{Bytes, readBook, got}
 use Rattle.rules.specs.Calls.{knownBound, openCall, stepCall, runCall, takeCall, OpenPromise, StepPromise, RunPromise, TakePromise}
 use Rattle.rules.specs.Arrangement.{Arrangement, Keeps}
-use Rattle.demands.specs.Outcomes.{open-has, step-has, run-has, take-has, open-refused, step-refused, take-refused, run-refused, open-one, step-one, run-one, take-one}
+use Rattle.demands.specs.Outcomes.{DoneOr, TakenOr, RanOr, open-has, step-has, run-has, take-has, open-refused, step-refused, take-refused, run-refused, open-one, step-one, run-one, take-one}
 use Rattle.demands.specs.Kept.{SoundFor, open-sound, step-sound, run-sound, take-sound}
 use Rattle.demands.specs.Chain.{Ends, run-is-chain}
 use Rattle.demands.specs.Worlds.{Call, World, Played, begun, Empty}
 use Rattle.demands.specs.Demand3.{Demand3, demand-3, nothing-keeps-them}
 
--- 1. Every public call accepts all bytes and numbers and has an outcome: a promise is the graph of a function. If its answer is not 0
--- then no lent byte differs from before. A run finds a book without fault, a pool that is sound for it and a known bound, so that
--- none of 1 to 13 holds; or it makes no step and changes no byte.
+-- 1. Every public call accepts all bytes and numbers and has an outcome: a promise is the graph of a function. It is done and answers 0,
+-- or it answers a number of those that document 01 has it check, and then no lent byte differs from before: open 1 to 12, step 1 to 17,
+-- take 1 to 13, 18 and 19. A run is refused by 1 to 13 and then makes no step and changes no byte; any other answers 0 or 14 to 17.
 pub record Demand1 (book pool : Bytes) : Type 0 where
   pub opening : (scheduler strategy : ℕ) → ((answer : ℕ) × (after : Bytes) × OpenPromise book pool scheduler strategy answer after)
-      × ((openCall book pool scheduler strategy .answer ≡ 0) ⊎ (openCall book pool scheduler strategy .pool ≡ pool))
+      × DoneOr 12 pool (openCall book pool scheduler strategy)
   pub stepping : (bound number : ℕ) → ((answer : ℕ) × (after : Bytes) × StepPromise book pool bound number answer after)
-      × ((stepCall book pool bound number .answer ≡ 0) ⊎ (stepCall book pool bound number .pool ≡ pool))
+      × DoneOr 17 pool (stepCall book pool bound number)
   pub running : (bound number budget : ℕ) → ((stop steps : ℕ) × (after : Bytes) × RunPromise book pool bound number budget stop steps after)
-      × ((SoundFor book pool × T (knownBound bound number)) ⊎ ((runCall book pool bound number budget .steps ≡ 0) × (runCall book pool bound number budget .pool ≡ pool)))
+      × RanOr book pool (knownBound bound number) (runCall book pool bound number budget)
   pub taking : (list : ℕ) (out : Bytes) → ((answer : ℕ) × (after written : Bytes) × TakePromise book pool list out answer after written)
-      × ((takeCall book pool list out .answer ≡ 0) ⊎ ((takeCall book pool list out .pool ≡ pool) × (takeCall book pool list out .out ≡ out)))
+      × TakenOr pool out (takeCall book pool list out)
 
 pub demand-1 : (book pool : Bytes) → Demand1 book pool
 demand-1 book pool = record {

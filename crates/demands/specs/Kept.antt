@@ -119,7 +119,7 @@ same-roomy s t e w = let a = w .some in let c = w .few in record { some = omega 
 pub open-sound : (book pool : Bytes) (scheduler strategy : ℕ) → openCall book pool scheduler strategy .answer ≡ 0 → SoundFor book (openCall book pool scheduler strategy .pool)
 unfolding openCall outcome
 open-sound book pool sc st =
-    checked-elim (λ (o : Outcome). o .answer ≡ 0 → SoundFor book (o .pool)) book pool _ _ _ (λ n l z. absurd (omega arith)) (λ b p z.
+    checked-elim (λ (o : Outcome). o .answer ≡ 0 → SoundFor book (o .pool)) book pool _ _ _ (λ n l z. absurd (omega (arith, l .some))) (λ b p z.
     let n = slotsIn limits (length pool) in
     let w = fits-roomy pool (p .length-right) in
     let k = slots-are pool in
@@ -135,7 +135,7 @@ module _ (book pool : Bytes) where
   pub step-sound : (bound number : ℕ) → stepCall book pool bound number .answer ≡ 0 → SoundFor book (stepCall book pool bound number .pool)
   unfolding stepCall outcome
   step-sound bound number =
-      soundly-elim (λ (o : Outcome). o .answer ≡ 0 → SoundFor book (o .pool)) book pool _ _ _ (λ n l z. absurd (omega arith)) (λ b p t.
+      soundly-elim (λ (o : Outcome). o .answer ≡ 0 → SoundFor book (o .pool)) book pool _ _ _ (λ n l z. absurd (omega (arith, l .some))) (λ b p t.
       let s = poolIn limits pool in
       let bd = boundOf bound number in
       if-elim (λ (o : Outcome). o .answer ≡ 0 → SoundFor book (o .pool)) _ _ _
@@ -157,7 +157,7 @@ module _ (book pool : Bytes) where
   pub take-sound : (list : ℕ) (out : Bytes) → takeCall book pool list out .answer ≡ 0 → SoundFor book (takeCall book pool list out .pool)
   unfolding takeCall takeOutcome
   take-sound list out =
-      soundly-elim (λ (o : TakeOutcome). o .answer ≡ 0 → SoundFor book (o .pool)) book pool _ _ _ (λ n l z. absurd (omega arith)) (λ b p t.
+      soundly-elim (λ (o : TakeOutcome). o .answer ≡ 0 → SoundFor book (o .pool)) book pool _ _ _ (λ n l z. absurd (omega (arith, l .some))) (λ b p t.
       let s = poolIn limits pool in
       caseL-elim (λ (o : TakeOutcome). o .answer ≡ 0 → SoundFor book (o .pool)) _ _ _ (λ _ z. absurd (omega arith)) (λ i is e.
       if-elim (λ (o : TakeOutcome). o .answer ≡ 0 → SoundFor book (o .pool)) _ _ _ (λ _ z. absurd (omega arith)) (λ _ _.

@@ -1,5 +1,6 @@
--- A book is refused by one of the numbers 1 to 10, and what a call does is one of two things: it refuses by a number from 1 on, or
--- its book was read, its pool has a right length, its settings are known, and (but for open) its pool is sound.
+-- A book is refused by one of the numbers 1 to 10, and what a call does is one of two things: it refuses by a number from 1 to 12, or
+-- 13 where it asks for a sound pool; or its book was read, its pool has a right length, its settings are known, and its pool is sound
+-- where that is asked.
 use mathlib.Core.Path.{_≡_, refl, sym, subst}
 use Prim.Native.Nat.{ℕ, zero, suc, _+_, _≤_}
 use native.Mathlib.Omega.{arith}
@@ -17,21 +18,22 @@ use Rattle.rules.specs.Image.{poolIn}
 use Rattle.rules.specs.Sound.{sound}
 use Rattle.rules.specs.Calls.{rightLength, checked, soundly}
 
--- ---- a book's refusals
-
-pub record Refusal (n : ℕ) : Type 0 where
+-- One of the refusal numbers from 1 to the last one.
+pub record Refusal (last n : ℕ) : Type 0 where
   pub some : 1 ≤ n
-  pub ten : n ≤ 10
+  pub most : n ≤ last
+
+-- ---- a book's refusals
 
 -- A reading that refuses does so by a number from 1 to 10.
 record Reads {A : Type 0} (r : Read A) : Type 0 where
-  numbers : (n at : ℕ) → r ≡ refused n at → Refusal n
+  numbers : (n at : ℕ) → r ≡ refused n at → Refusal 10 n
 
 reads-got : {A : Type 0} (a : A) (e : ℕ) → Reads (got a e)
 reads-got a e = record { numbers = λ n at q. let z : _≡_ {A = ℕ} 0 1 = cc in absurd (omega arith) }
 
-reads-refused : {A : Type 0} (n at : ℕ) → Refusal n → Reads {A = A} (refused n at)
-reads-refused {A} n at p = record { numbers = λ k e q. let z : n ≡ k = cc in subst Refusal z p }
+reads-refused : {A : Type 0} (n at : ℕ) → Refusal 10 n → Reads {A = A} (refused n at)
+reads-refused {A} n at p = record { numbers = λ k e q. let z : n ≡ k = cc in subst (Refusal 10) z p }
 
 then-reads : {A B : Type 0} (r : Read A) (f : A → ℕ → Read B) → Reads r → ((a : A) (e : ℕ) → Reads (f a e)) → Reads (andThen r f)
 unfolding andThen
@@ -51,8 +53,8 @@ many-reads (suc n) f g at = then-reads (f at) _ (g at) (λ x e. giving-reads (λ
 either-reads : {A : Type 0} (b : Bool) (f g : Unit {0} → Read A) → Reads (f tt) → Reads (g tt) → Reads (if b f g)
 either-reads b f g p q = if-elim Reads b f g (λ _. p) (λ _. q)
 
-is : (n : ℕ) → 1 ≤ n → n ≤ 10 → Refusal n
-is n a b = record { some = a; ten = b }
+is : (n : ℕ) → 1 ≤ n → n ≤ 10 → Refusal 10 n
+is n a b = record { some = a; most = b }
 
 number-reads : (s : Bytes) (at : ℕ) → Reads (number s at)
 unfolding number
@@ -133,7 +135,7 @@ book-reads s = either-reads _ _ _ (reads-refused 1 0 (is 1 (omega arith) (omega 
     (then-reads _ _ (mark-reads s) (λ _ a. then-reads _ _ (version-reads s a) (λ _ b. then-reads _ _ (names-reads s b) (λ d c. then-reads _ _ (ranged-reads 0 128 s c) (λ k e.
     then-reads _ _ (many-reads k (sequentAt d s) (sequent-reads d s) e) (λ ss g. either-reads _ _ _ (reads-got _ _) (reads-refused 10 g (is 10 (omega arith) (omega arith)))))))))
 
-pub book-refusal : (s : Bytes) (n at : ℕ) → readBook s ≡ refused n at → Refusal n
+pub book-refusal : (s : Bytes) (n at : ℕ) → readBook s ≡ refused n at → Refusal 10 n
 book-refusal s n at e = book-reads s .numbers n at e
 
 -- ---- the two ways of a call
@@ -152,22 +154,23 @@ caseRead-elim P (got a e) f g p q = q a e refl
 caseRead-elim P (refused n at) f g p q = p n at refl
 
 pub checked-elim {κ} : {A : Type 0} (P : A → Type κ) (book pool : Bytes) (settings : Bool) (refusing : ℕ → A) (going : Book → A)
-    → ((n : ℕ) → 1 ≤ n → P (refusing n)) → ((b : Book) → Passed book pool settings b → P (going b)) → P (checked book pool settings refusing going)
+    → ((n : ℕ) → Refusal 12 n → P (refusing n)) → ((b : Book) → Passed book pool settings b → P (going b)) → P (checked book pool settings refusing going)
 unfolding checked
 checked-elim P book pool settings refusing going f g =
-    caseRead-elim P (readBook book) _ _ (λ n at e. f n (book-refusal book n at e .some)) (λ b e r.
-    if-elim P _ _ _ (λ l. if-elim P _ _ _ (λ k. g b (record { end = e; reads = r; length-right = l; known = k })) (λ _. f 12 (omega arith))) (λ _. f 11 (omega arith)))
+    caseRead-elim P (readBook book) _ _ (λ n at e. let q = book-refusal book n at e in f n (record { some = q .some; most = omega (arith, q .most) })) (λ b e r.
+    if-elim P _ _ _ (λ l. if-elim P _ _ _ (λ k. g b (record { end = e; reads = r; length-right = l; known = k })) (λ _. f 12 (record { some = omega arith; most = omega arith }))) (λ _. f 11 (record { some = omega arith; most = omega arith })))
 
 pub soundly-elim {κ} : {A : Type 0} (P : A → Type κ) (book pool : Bytes) (settings : Bool) (refusing : ℕ → A) (going : Book → State → A)
-    → ((n : ℕ) → 1 ≤ n → P (refusing n)) → ((b : Book) → Passed book pool settings b → T (sound limits b pool) → P (going b (poolIn limits pool)))
+    → ((n : ℕ) → Refusal 13 n → P (refusing n)) → ((b : Book) → Passed book pool settings b → T (sound limits b pool) → P (going b (poolIn limits pool)))
     → P (soundly book pool settings refusing going)
 unfolding soundly
 soundly-elim P book pool settings refusing going f g =
-    checked-elim P book pool settings refusing _ f (λ b p. if-elim P _ _ _ (λ t. g b p t) (λ _. f 13 (omega arith)))
+    checked-elim P book pool settings refusing _ (λ n q. f n (record { some = q .some; most = omega (arith, q .most) })) (λ b p.
+    if-elim P _ _ _ (λ t. g b p t) (λ _. f 13 (record { some = omega arith; most = omega arith })))
 
 -- The same where the book is known.
 pub soundly-of {κ} : {A : Type 0} (P : A → Type κ) (book pool : Bytes) (settings : Bool) (refusing : ℕ → A) (going : Book → State → A) (b : Book) (e : ℕ) → readBook book ≡ got b e
-    → ((n : ℕ) → 1 ≤ n → P (refusing n)) → (T (rightLength (length pool)) → T settings → T (sound limits b pool) → P (going b (poolIn limits pool)))
+    → ((n : ℕ) → Refusal 13 n → P (refusing n)) → (T (rightLength (length pool)) → T settings → T (sound limits b pool) → P (going b (poolIn limits pool)))
     → P (soundly book pool settings refusing going)
 soundly-of P book pool settings refusing going b e r f g =
     soundly-elim P book pool settings refusing going f (λ c p t.

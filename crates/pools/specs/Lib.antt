@@ -4,3 +4,4 @@ pub mod Slots
 pub mod Tidy
 pub mod Moves
 pub mod Steps
+pub mod Stops

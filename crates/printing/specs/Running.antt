@@ -24,7 +24,8 @@ use Rattle.placing.specs.OneByOne.{free-count}
 use Rattle.demands.specs.Kept.{Roomy, kids-sound, same-roomy, back, image-fits, image-sound}
 use Rattle.lines.specs.Text.{listing, refusal}
 use Rattle.lines.specs.Printed.{printed}
-use Rattle.printing.specs.Stops.{ranText, run-stops, ran-listing}
+use Rattle.pools.specs.Stops.{run-stops}
+use Rattle.printing.specs.Stops.{ranText, ran-listing}
 use Rattle.printing.specs.Opening.{Opened, prints, book, scheduler, strategy, bound, number, known, fine, ranOf, textOf, image, printed-is}
 
 -- ---- the run
