@@ -12,3 +12,5 @@ pub mod Depths
 pub mod Merged
 pub mod Within
 pub mod Sound
+pub mod Rust
+pub mod Children

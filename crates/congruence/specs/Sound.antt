@@ -53,7 +53,7 @@ module _ (lim : Limits) (d : Names) (m : Model) (t : T (soundModel lim d m)) (a 
     pub sound-merged-is-merge : (n : Model) (h : ℕ → ℕ) → Merged a b m n h → (n ≡ merge a b m now .0) × (h ≡ survivor a b m)
     sound-merged-is-merge = merged-is-merge lim d m (sound-neat lim d m t) a b ka kb now
 
-    -- Whatever the order in which each round files the keys and the pairs then wait. The order of the Rust is one of them.
+    -- Whatever the order in which each round files the keys and the pairs then wait. The order of the Rust is one of them: Rust.
     pub sound-merge-any-order : (order : Orders Entry) (next : Orders Pair) → EachReorders order → EachReorders next
         → mergeBy order next a b m now ≡ merge a b m now
     sound-merge-any-order = merge-any-order lim d m (sound-neat lim d m t) a b ka kb now

@@ -1,7 +1,6 @@
 -- Merging with its orders left open: in which order a round files the keys, and in which the pairs then wait. `merge` is merging by
--- one choice of orders (MergeByLaws), and the Rust takes keys and pairs in another: keys in the order of the keys before, the newest
--- pair first. (It also leaves out pairs of one element, which change nothing here.) That the choice does not bear on the sheet is
--- congruence.Sound.sound-merge-any-order.
+-- one choice of orders (MergeByLaws), and the Rust's is another (congruence.Rust.rust-is-by-order): keys in the order of the keys
+-- before, the newest pair first. That the choice does not bear on the sheet is congruence.Sound.sound-merge-any-order.
 use mathlib.Core.Path.{_≡_}
 use Prim.Native.Nat.{ℕ, zero, suc, max, min}
 use mathlib.Core.List.{List, [], _∷_, map}

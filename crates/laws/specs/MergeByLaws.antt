@@ -16,7 +16,7 @@ use Rattle.laws.specs.MergeBy.{Reorders, Orders, EachReorders, mergeInto
 
 -- ---- orders
 
--- As they come: so the Rust takes keys and pairs, and `merge` pairs.
+-- As they come: so the Rust takes keys and pairs (congruence.Rust), and `merge` pairs.
 pub same-reorders : {A : Type 0} → Reorders {A = A} (λ xs. xs)
 same-reorders = record { each = λ P xs a. a; has = λ Q xs s. s; many = λ xs. refl }
 

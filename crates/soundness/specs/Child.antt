@@ -61,9 +61,9 @@ fact-tidy d B now m f g a t =
     }
 
 -- A child on its way: tidy, and small unless it was ever too big.
-record Good (lim : Limits) (d : Names) (B : ℕ → Type 0) (k : Child) : Type 0 where
-  tidy : Tidy d B (k .now) (k .model)
-  small : T (not (k .over)) → Small lim (k .model)
+pub record Good (lim : Limits) (d : Names) (B : ℕ → Type 0) (k : Child) : Type 0 where
+  pub tidy : Tidy d B (k .now) (k .model)
+  pub small : T (not (k .over)) → Small lim (k .model)
 
 module _ (lim : Limits) (d : Names) (B : ℕ → Type 0) (env : List Meaning) (means : All (Means d B) env) where
   recorded-good : (l : Literal) (k : Child) → WfLiteral d (length env) l → Good lim d B k → Good lim d B (recorded lim env l k)
@@ -84,7 +84,7 @@ module _ (lim : Limits) (d : Names) (B : ℕ → Type 0) (env : List Meaning) (m
         small = λ t. merge-small lim _ _ _ (k .now) (not-big lim _ (or-no (k .over) _ t .1));
       }
 
-  tell-good : (b : Bound) (l : Literal) (k : Child) → WfLiteral d (length env) l → Good lim d B k → Good lim d B (tell lim b env l k)
+  pub tell-good : (b : Bound) (l : Literal) (k : Child) → WfLiteral d (length env) l → Good lim d B k → Good lim d B (tell lim b env l k)
   unfolding tell
   tell-good b l k w g =
       if-elim (Good lim d B) _ _ _ (λ _. if-elim (Good lim d B) _ _ _ (λ _. g) (λ _. recorded-good l k w g)) (λ _. record { tidy = g .tidy; small = g .small })
