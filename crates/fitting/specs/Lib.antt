@@ -6,3 +6,4 @@ pub mod Merge
 pub mod Child
 pub mod Fire
 pub mod Real
+pub mod Things

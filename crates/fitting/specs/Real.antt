@@ -59,41 +59,41 @@ leaves n ms = record { stop = 14; steps = n; waiting = []; complete = ms; bounde
 
 -- ---- words
 
-abbrev P : Term → Literal
+abbrev pub P : Term → Literal
 P t = fact 0 (cons t nil)
 
-abbrev Q : Term → Literal
+abbrev pub Q : Term → Literal
 Q t = fact 1 (cons t nil)
 
-abbrev a : Term
+abbrev pub a : Term
 a = con 0
 
-abbrev b : Term
+abbrev pub b : Term
 b = con 1
 
-abbrev f : Term → Term
+abbrev pub f : Term → Term
 f t = app 0 (cons t nil)
 
-abbrev plain : List Literal → Disjunct
+abbrev pub plain : List Literal → Disjunct
 plain ls = record { origins = []; literals = ls }
 
 -- An existential that is function witness 0 at variable 0.
 abbrev some-y : List Literal → Disjunct
 some-y ls = record { origins = record { kind = 1; witness = 0; args = 0 ∷ [] } ∷ []; literals = ls }
 
-abbrev rule : ℕ → List Literal → List Disjunct → Sequent
+abbrev pub rule : ℕ → List Literal → List Disjunct → Sequent
 rule v bs ds = record { free = v; body = bs; head = ds }
 
-abbrev model : ℕ → List Entry → List Fact → List ℕ → Model
+abbrev pub model : ℕ → List Entry → List Fact → List ℕ → Model
 model n ks fs ds = record { created = n; keys = ks; facts = fs; depths = ds }
 
-abbrev a↦ : ℕ → Entry
+abbrev pub a↦ : ℕ → Entry
 a↦ v = (key 1 0 [], v)
 
 abbrev b↦ : ℕ → Entry
 b↦ v = (key 1 1 [], v)
 
-abbrev f↦ : ℕ → ℕ → Entry
+abbrev pub f↦ : ℕ → ℕ → Entry
 f↦ x v = (key 2 0 (x ∷ []), v)
 
 abbrev w↦ : ℕ → ℕ → Entry
@@ -134,7 +134,7 @@ split-body = tt
 
 -- ---- arrangements
 
-abbrev isZero : List ℕ → Bool
+abbrev pub isZero : List ℕ → Bool
 isZero [] = false
 isZero (zero ∷ xs) = true
 isZero (suc n ∷ xs) = false
