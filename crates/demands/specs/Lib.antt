@@ -10,3 +10,5 @@ pub mod Typed
 pub mod Chain
 pub mod Useless
 pub mod Demands
+pub mod Named
+pub mod Example
