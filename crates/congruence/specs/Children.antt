@@ -12,7 +12,8 @@ use lib.ListN.{length}
 use lib.Dec.{T}
 use Rattle.base.specs.Branch.{if}
 use Rattle.base.specs.Lists.{All}
-use Rattle.base.specs.ListLaws.{all-all, map-agree}
+use Rattle.base.specs.BranchLaws.{if-elim}
+use Rattle.base.specs.ListLaws.{all-all, all-any, map-agree}
 use Rattle.rules.specs.Book.{Literal, fact, same, Disjunct, Names, Book, rules}
 use Rattle.rules.specs.Reading.{Bytes, readBook, got}
 use Rattle.rules.specs.Sheet.{Entry, Model, domain, known, Limits}
@@ -24,13 +25,14 @@ use Rattle.rules.specs.Child.{enter, Child, tooBig, recorded, tell, tells, chil
 use Rattle.rules.specs.Sound.{soundModel}
 use Rattle.laws.specs.Firing.{visits-within, firing-is}
 use Rattle.laws.specs.MergeBy.{Orders, EachReorders, mergeBy}
-use Rattle.soundness.specs.Tools.{Yielded, known-yielded, yielded-known}
+use Rattle.soundness.specs.Tools.{Yields, Yielded, known-yielded, yielded-known}
 use Rattle.soundness.specs.Neat.{Neat}
 use Rattle.soundness.specs.Model.{sound-neat}
 use Rattle.soundness.specs.Book.{WfLiteral, WfDisjunct, WfSequent, read-wf}
 use Rattle.soundness.specs.Enter.{Tidy, Means, enter-entered}
 use Rattle.soundness.specs.Child.{Good, tell-good, head-means, head-length, domain-known}
 use Rattle.congruence.specs.Merged.{merge-any-order}
+use Rattle.congruence.specs.History.{Living, enter-living, enters-living, merge-living}
 use Rattle.congruence.specs.Rust.{rustMerge, rust-is-merge}
 
 -- ---- a child by another merge
@@ -69,34 +71,51 @@ sizes m = record { elements = m .created; keys = length (m .keys); facts = lengt
 tidy-neat : (d : Names) (B : ℕ → Type 0) (now : History) (m : Model) → Tidy d B now m → Neat (sizes m) d m
 tidy-neat d B now m g = record { small = record { fewCreated = le-refl _; fewKeys = le-refl _; fewFacts = le-refl _ }; listed = g .listed; linked = g .linked }
 
--- On every neat sheet and any two of its elements, it is `merge`.
+-- On every neat sheet and any two of its elements, with a history that takes elements to themselves, it is `merge`.
 abbrev Merges : Merging → Type 0
-Merges join = (lim : Limits) (d : Names) (m : Model) → Neat lim d m → (a b : ℕ) → T (known m a) → T (known m b) → (now : History) → join a b m now ≡ merge a b m now
+Merges join = (lim : Limits) (d : Names) (m : Model) → Neat lim d m → (a b : ℕ) → T (known m a) → T (known m b) → (now : History) → Living now m → join a b m now ≡ merge a b m now
 
 module _ (join : Merging) (g : Merges join) where
   module _ (lim : Limits) (bd : Bound) (d : Names) (B : ℕ → Type 0) (env : List Meaning) (means : All (Means d B) env) where
-    recorded-by : (l : Literal) (k : Child) → WfLiteral d (length env) l → Good lim d B k → recordedBy join lim env l k ≡ recorded lim env l k
+    -- A child on its way, with its history.
+    abbrev OnTheWay : Child → Type 0
+    OnTheWay k = Good lim d B k × Living (k .now) (k .model)
+
+    -- The identity's two terms are recorded, and the merge is of two elements of a neat sheet.
+    recorded-by : (l : Literal) (k : Child) → WfLiteral d (length env) l → OnTheWay k
+        → (recordedBy join lim env l k ≡ recorded lim env l k) × Living (recorded lim env l k .now) (recorded lim env l k .model)
     unfolding recordedBy recorded
-    recorded-by (fact r ts) k w t = refl
+    recorded-by (fact r ts) k w t = let v = enters-living (k .now) env ts (k .model) (t .1) in (refl, record { twice = v .twice; own = v .own; new = v .new })
     recorded-by (same s u) k w t =
-        let q = enter-entered d B (k .now) env means s (k .model) (w .0) (t .tidy) in
+        let q = enter-entered d B (k .now) env means s (k .model) (w .0) (t .0 .tidy) in
         let p = enter-entered d B (k .now) env means u (enter s (k .model) (k .now) env .0) (w .1) (q .tidy) in
         let m = enter u (enter s (k .model) (k .now) env .0) (k .now) env .0 in
-        let e = g (sizes m) d m (tidy-neat d B (k .now) m (p .tidy)) _ _ (yielded-known m _ (p .stay _ (q .yields .0))) (yielded-known m _ (p .yields .0)) (k .now) in
-        λ i. record { model = e i .0; now = e i .1; cut = k .cut; over = k .over || tooBig lim m }
+        let n = tidy-neat d B (k .now) m (p .tidy) in
+        let kx = yielded-known m _ (p .stay _ (q .yields .0)) in
+        let ky = yielded-known m _ (p .yields .0) in
+        let v = enter-living (k .now) env u _ (enter-living (k .now) env s (k .model) (t .1)) in
+        let e = g (sizes m) d m n _ _ kx ky (k .now) v in
+        (λ i. record { model = e i .0; now = e i .1; cut = k .cut; over = k .over || tooBig lim m }, merge-living (sizes m) d m n _ _ kx ky (k .now) v)
 
-    tell-by : (l : Literal) (k : Child) → WfLiteral d (length env) l → Good lim d B k → tellBy join lim bd env l k ≡ tell lim bd env l k
+    tell-by : (l : Literal) (k : Child) → WfLiteral d (length env) l → OnTheWay k → tellBy join lim bd env l k ≡ tell lim bd env l k
     unfolding tellBy tell
     tell-by l k w t =
-        let e = recorded-by l k w t in
+        let e = recorded-by l k w t .0 in
         λ i. if (admitted bd (length (domain (k .model))) (termsOf l) (k .model) (k .now) env)
         (λ _. if (observed (k .model) env l) (λ _. k) (λ _. e i)) (λ _. record { model = k .model; now = k .now; cut = true; over = k .over })
 
-    tells-by : (ls : List Literal) (k : Child) → All (WfLiteral d (length env)) ls → Good lim d B k → tellsBy join lim bd env ls k ≡ tells lim bd env ls k
+    tell-living : (l : Literal) (k : Child) → WfLiteral d (length env) l → OnTheWay k → Living (tell lim bd env l k .now) (tell lim bd env l k .model)
+    unfolding tell
+    tell-living l k w t =
+        if-elim (λ (c : Child). Living (c .now) (c .model)) _ _ _
+        (λ _. if-elim (λ (c : Child). Living (c .now) (c .model)) _ _ _ (λ _. t .1) (λ _. recorded-by l k w t .1)) (λ _. t .1)
+
+    tells-by : (ls : List Literal) (k : Child) → All (WfLiteral d (length env)) ls → OnTheWay k → tellsBy join lim bd env ls k ≡ tells lim bd env ls k
     unfolding tellsBy tells
     tells-by [] k w t = refl
     tells-by (l ∷ ls) k w t =
-        ap (tellsBy join lim bd env ls) (tell-by l k (w .0) t) ∙ tells-by ls (tell lim bd env l k) (w .1) (tell-good lim d B env means bd l k (w .0) t)
+        ap (tellsBy join lim bd env ls) (tell-by l k (w .0) t)
+        ∙ tells-by ls (tell lim bd env l k) (w .1) (tell-good lim d B env means bd l k (w .0) (t .0), tell-living l k (w .0) t)
 
   -- Of a neat sheet, at a choice of its elements.
   child-by : (lim : Limits) (bd : Bound) (d : Names) (m : Model) (c : List ℕ) (j : Disjunct) → Neat lim d m → All (λ e. T (known m e)) c → WfDisjunct d (length c) j
@@ -105,8 +124,10 @@ module _ (join : Merging) (g : Merges join) where
   child-by lim bd d m c j n a w =
       let Y = Yielded (m .keys) in
       tells-by lim bd d Y (headMeanings c j) (head-means d Y c (all-all (λ e. T (known m e)) Y (known-yielded m) c a) j (w .0)) (j .literals) _
-      (subst (λ z. All (WfLiteral d z) (j .literals)) (sym (head-length c j)) (w .1))
-      (record { tidy = record { listed = n .listed; linked = n .linked; follows = λ e y. y }; small = λ _. n .small })
+      (subst (λ z. All (WfLiteral d z) (j .literals)) (sym (head-length c j)) (w .1)) (
+        record { tidy = record { listed = n .listed; linked = n .linked; follows = λ e y. y }; small = λ _. n .small },
+        record { twice = λ e. refl; own = all-any (Yields (λ v. v ≡ v)) (λ _. refl) (m .keys); new = λ e _. refl },
+      )
 
   -- All children of a step on a sound sheet: a book that was read, any bound, strategy and place, and what fires there.
   children-by : (book : Bytes) (b : Book) (e : ℕ) → readBook book ≡ got b e → (lim : Limits) (bd : Bound) (m : Model) → T (soundModel lim (b .names) m)
@@ -126,7 +147,7 @@ module _ (book : Bytes) (b : Book) (e : ℕ) (r : readBook book ≡ got b e) (li
   pub children-any-order : (order : Orders Entry) (next : Orders Pair) → EachReorders order → EachReorders next
       → map (childBy (mergeBy order next) lim bd m (f .choice)) (f .sequent .head) ≡ map (child lim bd m (f .choice)) (f .sequent .head)
   children-any-order order next ro rn =
-      children-by (mergeBy order next) (λ l d n g x y kx ky now. merge-any-order l d n g x y kx ky now order next ro rn) book b e r lim bd m t st place f q
+      children-by (mergeBy order next) (λ l d n g x y kx ky now _. merge-any-order l d n g x y kx ky now order next ro rn) book b e r lim bd m t st place f q
 
   pub children-rust : map (childBy rustMerge lim bd m (f .choice)) (f .sequent .head) ≡ map (child lim bd m (f .choice)) (f .sequent .head)
   children-rust = children-by rustMerge rust-is-merge book b e r lim bd m t st place f q

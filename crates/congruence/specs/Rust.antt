@@ -12,10 +12,9 @@
 --   reduce_facts, depths        facts are renamed; the one that stays has the smaller depth, the other has none.
 -- So it is merging by an order (laws.MergeBy): keys are filed in the order of the keys before, and pairs wait as `refile` leaves
 -- them, the newest first. That pairs of one element are left out, and others are not renamed but looked up, bears on no round.
--- Two things are not as in the Rust. Its history is the child's, where here the history of this one merge is put behind the
--- child's: the Rust's pairs are of living elements, and a history takes a living element to itself. And it lowers depths from the
--- elements that stayed, where `lowered` goes over all keys: the depths are determined by the keys (Depths), but that the Rust's
--- lowering comes to them is not proved here.
+-- The history is the child's, which takes each element of the sheet to itself (History).
+-- One thing is not as in the Rust: it lowers depths from the elements that stayed on, where `lowered` goes over all keys. The keys
+-- determine the depths (Depths), but that the Rust's lowering comes to them is not proved here.
 use mathlib.Core.Path.{_≡_, refl, sym, ap, _∙_, subst}
 use Prim.Native.Nat.{ℕ, zero, suc, _+_, _≤_, min, max}
 use native.Mathlib.Decide.{decLe}
@@ -27,7 +26,7 @@ use lib.Dec.{T, eqb, eqb→eq}
 use Rattle.base.specs.Branch.{if, caseO}
 use Rattle.base.specs.Lists.{All}
 use Rattle.base.specs.BranchLaws.{if-elim, caseO-elim, eq→eqb, if-true}
-use Rattle.base.specs.ListLaws.{all-map, all-any}
+use Rattle.base.specs.ListLaws.{all-map}
 use Rattle.rules.specs.Book.{Names}
 use Rattle.rules.specs.Sheet.{Entry, Model, find, insertKey, known, Limits}
 use Rattle.rules.specs.Bound.{History}
@@ -36,12 +35,13 @@ use Rattle.rules.specs.Sound.{soundModel}
 use Rattle.laws.specs.Tables.{find-all, insertKey-all, refile-all}
 use Rattle.laws.specs.MergeBy.{Orders, mergeIntoBy, mergeAllBy, mergeBy}
 use Rattle.laws.specs.MergeByLaws.{same-reorders}
-use Rattle.soundness.specs.Tools.{Yields, insertKey-length}
+use Rattle.soundness.specs.Tools.{Yields, yielded-has, known-yielded, insertKey-length}
 use Rattle.soundness.specs.Join.{into-length}
 use Rattle.soundness.specs.Neat.{Neat}
 use Rattle.soundness.specs.Model.{sound-neat}
-use Rattle.congruence.specs.Rounds.{rename-has, afterHistory, mergeBy-after}
+use Rattle.congruence.specs.Rounds.{rename-has}
 use Rattle.congruence.specs.Merged.{merge-any-order}
+use Rattle.congruence.specs.History.{Living}
 
 -- ---- the Rust's rounds
 
@@ -70,7 +70,7 @@ rustRounds (suc n) m h (p ∷ ps) =
     (λ e. rename s l (h e)) (r .1))
 
 unfoldable pub rustMerge : ℕ → ℕ → Model → History → Model × History
-rustMerge a b m now = let r = rustRounds (suc (length (m .keys))) m (λ e. e) ((a, b) ∷ []) in (lowered (r .0), λ e. r .1 (now e))
+rustMerge a b m now = let r = rustRounds (suc (length (m .keys))) m now ((a, b) ∷ []) in (lowered (r .0), r .1)
 
 -- ---- its order
 
@@ -187,19 +187,20 @@ rounds-same (suc k) (suc j) m h _ _ (pushed p ps qs w) f g t o =
 
 -- ---- so it is merging by that order, and on a sheet it is `merge`
 
-pub rust-is-by-order : (a b : ℕ) (m : Model) (now : History) → rustMerge a b m now ≡ mergeBy keysBefore newestFirst a b m now
+pub rust-is-by-order : (a b : ℕ) (m : Model) (now : History) → Living now m → T (known m a) → T (known m b) → rustMerge a b m now ≡ mergeBy keysBefore newestFirst a b m now
 unfolding rustMerge mergeBy
-rust-is-by-order a b m now =
-    let e = rounds-same (suc (length (m .keys))) (suc (length (m .keys))) m (λ e. e) ((a, b) ∷ []) ((a, b) ∷ []) (pushed (a, b) [] [] noPair)
-    (omega arith) (omega arith) (λ _. refl) (all-any (Yields (λ v. v ≡ v)) (λ _. refl) (m .keys)) in
-    (λ i. afterHistory now (lowered (e i .0), e i .1)) ∙ sym (mergeBy-after keysBefore newestFirst now a b m)
+rust-is-by-order a b m now g ka kb =
+    let own : (e : ℕ) → T (known m e) → now e ≡ e = λ e k. yielded-has (λ v. now v ≡ v) (m .keys) (g .own) e (known-yielded m e k) in
+    let w = subst (λ (q : Pair). Waiting now ((a, b) ∷ []) (q ∷ [])) (λ i. (own a ka i, own b kb i)) (pushed (a, b) [] [] noPair) in
+    let e = rounds-same (suc (length (m .keys))) (suc (length (m .keys))) m now ((a, b) ∷ []) ((a, b) ∷ []) w (omega arith) (omega arith) (g .twice) (g .own) in
+    λ i. (lowered (e i .0), e i .1)
 
-pub rust-is-merge : (lim : Limits) (d : Names) (m : Model) → Neat lim d m → (a b : ℕ) → T (known m a) → T (known m b) → (now : History)
+pub rust-is-merge : (lim : Limits) (d : Names) (m : Model) → Neat lim d m → (a b : ℕ) → T (known m a) → T (known m b) → (now : History) → Living now m
     → rustMerge a b m now ≡ merge a b m now
-rust-is-merge lim d m g a b ka kb now =
-    rust-is-by-order a b m now ∙ merge-any-order lim d m g a b ka kb now keysBefore newestFirst (λ _. same-reorders) (λ _. same-reorders)
+rust-is-merge lim d m g a b ka kb now l =
+    rust-is-by-order a b m now l ka kb ∙ merge-any-order lim d m g a b ka kb now keysBefore newestFirst (λ _. same-reorders) (λ _. same-reorders)
 
 -- Of a sheet that passes the test of soundness, and any two of its elements.
-pub sound-rust-is-merge : (lim : Limits) (d : Names) (m : Model) → T (soundModel lim d m) → (a b : ℕ) → T (known m a) → T (known m b) → (now : History)
+pub sound-rust-is-merge : (lim : Limits) (d : Names) (m : Model) → T (soundModel lim d m) → (a b : ℕ) → T (known m a) → T (known m b) → (now : History) → Living now m
     → rustMerge a b m now ≡ merge a b m now
 sound-rust-is-merge lim d m t = rust-is-merge lim d m (sound-neat lim d m t)
