@@ -38,7 +38,7 @@ abbrev pub book : Book
 book = record { names = record { constants = 2; functions = 1 ∷ []; relations = 1 ∷ 1 ∷ 1 ∷ []; constantWitnesses = 0; functionWitnesses = [] }; sequents = refuted }
 
 -- Numbers below 256 in two bytes each.
-abbrev numbers : List ℕ → Bytes
+abbrev pub numbers : List ℕ → Bytes
 numbers [] = []
 numbers (n ∷ ns) = n ∷ 0 ∷ numbers ns
 

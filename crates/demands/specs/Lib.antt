@@ -12,3 +12,4 @@ pub mod Useless
 pub mod Demands
 pub mod Named
 pub mod Example
+pub mod Endless

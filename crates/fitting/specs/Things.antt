@@ -172,7 +172,7 @@ module _ (A : Arrangement) (k : Keeps A endless) where
       let same = eqb (towers i) (towers j) in
       elim (or-is (same && true) false t) [ inl u ↦ ap suc (towers-apart i j (eqb→eq _ _ (and-l same true u))) | inr u ↦ absurd u ]
 
--- And a run of it goes on until a child is too big: here the seventh, under limits of six elements.
+-- And no run completes it (demands.Endless): one goes on until a child is too big, here the seventh, under limits of six elements.
 pub endless-stops : run (record { elements = 6; keys = 6; facts = 6 }) 100 unbounded endless (opened 0 0 1) .stop ≡ 15
 unfolding ended
 endless-stops = refl
