@@ -14,5 +14,6 @@ pub mod Merged
 pub mod Within
 pub mod Sound
 pub mod History
+pub mod Lowering
 pub mod Rust
 pub mod Children

@@ -68,7 +68,7 @@ module _ {ℓ} (order : Orders Entry) (next : Orders Pair) (ro : EachReorders or
 
 -- ---- the history does not bear on the sheet, and is carried along
 
-through-if : {A B : Type 0} (f : A → B) (b : Bool) (x y : Unit {0} → A) (u v : Unit {0} → B) → u tt ≡ f (x tt) → v tt ≡ f (y tt) → if b u v ≡ f (if b x y)
+pub through-if : {A B : Type 0} (f : A → B) (b : Bool) (x y : Unit {0} → A) (u v : Unit {0} → B) → u tt ≡ f (x tt) → v tt ≡ f (y tt) → if b u v ≡ f (if b x y)
 unfolding if
 through-if f true x y u v p q = p
 through-if f false x y u v p q = q

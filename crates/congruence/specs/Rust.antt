@@ -1,47 +1,51 @@
--- The Rust's merging (`merge` and `reduce_rewrites` in impl/basic.rs), written out, and that it makes of a sound sheet what `merge` does.
--- A round of it, line by line:
+-- The Rust's merging (`merge`, `reduce_rewrites` and `lower` in impl/basic.rs), written out, and that it makes of a sound sheet what
+-- `merge` does. A round of it, line by line:
 --   pending.pop()               the pair that was pushed last is taken: the first of the list, for the end of the Rust's vector is the
 --                               front of the list here.
---   history(&a), history(&b)    pairs wait as they were found, and are looked up when they are taken. One whose elements have become
---                               one in the meantime is passed over.
+--   history(&a), history(&b)    pairs wait as they were found, and are looked up when they are taken, in the child's history. One
+--                               whose elements have become one in the meantime is passed over.
 --   (from, to)                  the smaller element stays.
 --   reduce_rewrites             goes over the keys in the order in which they stood, so in rising order of the keys before they are
 --                               renamed. A renamed key that is there already gets the new value, and of its two values the pair is
 --                               pushed, the value that was there first; a pair of one element is left out.
 --   pending.extend(..)          so the pairs that a round finds are taken before those that waited, and the last found first.
 --   reduce_facts, depths        facts are renamed; the one that stays has the smaller depth, the other has none.
+--   winners.push(from)          the elements that stayed, looked up when no pair waits, are those from which depths are lowered
+--                               (Lowering).
 -- So it is merging by an order (laws.MergeBy): keys are filed in the order of the keys before, and pairs wait as `refile` leaves
--- them, the newest first. That pairs of one element are left out, and others are not renamed but looked up, bears on no round.
--- The history is the child's, which takes each element of the sheet to itself (History).
--- One thing is not as in the Rust: it lowers depths from the elements that stayed on, where `lowered` goes over all keys. The keys
--- determine the depths (Depths), but that the Rust's lowering comes to them is not proved here.
+-- them, the newest first. That pairs of one element are left out, and others are not renamed but looked up, bears on no round: the
+-- child's history takes each element of the sheet to itself (History). The Rust's loops count nothing; here they have a number of
+-- turns, and more of them would change nothing (rounds-same, Lowering.rust-lowers).
 use mathlib.Core.Path.{_≡_, refl, sym, ap, _∙_, subst}
 use Prim.Native.Nat.{ℕ, zero, suc, _+_, _≤_, min, max}
 use native.Mathlib.Decide.{decLe}
 use native.Mathlib.Omega.{arith}
+use mathlib.Core.Logic.{inl}
 use mathlib.Core.Option.{Option, none, some}
 use mathlib.Core.List.{List, [], _∷_, map}
 use lib.ListN.{length, length-map}
 use lib.Dec.{T, eqb, eqb→eq}
 use Rattle.base.specs.Branch.{if, caseO}
 use Rattle.base.specs.Lists.{All}
-use Rattle.base.specs.BranchLaws.{if-elim, caseO-elim, eq→eqb, if-true}
-use Rattle.base.specs.ListLaws.{all-map}
+use Rattle.base.specs.BranchLaws.{if-elim, caseO-elim, eq→eqb, neqb→ne, if-true}
+use Rattle.base.specs.ListLaws.{all-all, all-map}
 use Rattle.rules.specs.Book.{Names}
 use Rattle.rules.specs.Sheet.{Entry, Model, find, insertKey, known, Limits}
 use Rattle.rules.specs.Bound.{History}
-use Rattle.rules.specs.Merge.{rename, renameEntry, renameFact, Pair, renamePair, Filed, file, refile, refact, mergeDepths, lowered, merge}
+use Rattle.rules.specs.Merge.{rename, renameEntry, renameFact, Pair, renamePair, Filed, file, refile, refact, mergeDepths, sum, lowered, merge}
 use Rattle.rules.specs.Sound.{soundModel}
-use Rattle.laws.specs.Tables.{find-all, insertKey-all, refile-all}
+use Rattle.laws.specs.Tables.{find-all, insertKey-all}
 use Rattle.laws.specs.MergeBy.{Orders, mergeIntoBy, mergeAllBy, mergeBy}
 use Rattle.laws.specs.MergeByLaws.{same-reorders}
 use Rattle.soundness.specs.Tools.{Yields, yielded-has, known-yielded, insertKey-length}
+use Rattle.soundness.specs.Settle.{RestsAt, AtRest}
 use Rattle.soundness.specs.Join.{into-length}
 use Rattle.soundness.specs.Neat.{Neat}
 use Rattle.soundness.specs.Model.{sound-neat}
-use Rattle.congruence.specs.Rounds.{rename-has}
+use Rattle.congruence.specs.Rounds.{rename-has, through-if}
 use Rattle.congruence.specs.Merged.{merge-any-order}
 use Rattle.congruence.specs.History.{Living}
+use Rattle.congruence.specs.Lowering.{rustLower, Waits, rust-lowers, round-waits}
 
 -- ---- the Rust's rounds
 
@@ -53,24 +57,30 @@ unfoldable pub rustRefile : List Entry → Filed → Filed
 rustRefile [] r = r
 rustRefile (x ∷ xs) r = rustRefile xs (rustFile x r)
 
--- A pair looked up.
-abbrev pub through : History → Pair → Pair
-through h p = (h (p .0), h (p .1))
-
--- The loop of `merge`, for at most so many pairs.
-unfoldable pub rustRounds : ℕ → Model → History → List Pair → Model × History
-rustRounds zero m h ps = (m, h)
-rustRounds (suc n) m h [] = (m, h)
-rustRounds (suc n) m h (p ∷ ps) =
-    let a = h (p .0) in let b = h (p .1) in
-    if (eqb a b) (λ _. rustRounds n m h ps) (λ _.
-    let s = min a b in let l = max a b in
+-- What a round makes of a model and of the pairs that wait, with those that it finds before them.
+unfoldable pub rustInto : ℕ → ℕ → Model → List Pair → Model × List Pair
+rustInto s l m ps =
     let r = rustRefile (map (renameEntry s l) (m .keys)) ([], ps) in
-    rustRounds n (record { created = m .created; keys = r .0; facts = refact (map (renameFact s l) (m .facts)) []; depths = mergeDepths s l (m .depths) })
-    (λ e. rename s l (h e)) (r .1))
+    (record { created = m .created; keys = r .0; facts = refact (map (renameFact s l) (m .facts)) []; depths = mergeDepths s l (m .depths) }, r .1)
 
+-- The loop of `merge`, for at most so many pairs, with the elements that stayed, the last first.
+unfoldable pub rustRounds : ℕ → Model → History → List Pair → List ℕ → (Model × History) × List ℕ
+rustRounds zero m h ps ws = ((m, h), ws)
+rustRounds (suc n) m h [] ws = ((m, h), ws)
+rustRounds (suc n) m h (p ∷ ps) ws =
+    let a = h (p .0) in let b = h (p .1) in
+    if (eqb a b) (λ _. rustRounds n m h ps ws) (λ _.
+    let s = min a b in let l = max a b in
+    let r = rustInto s l m ps in
+    rustRounds n (r .0) (λ e. rename s l (h e)) (r .1) (s ∷ ws))
+
+-- Depths are lowered from those elements, looked up at the end.
 unfoldable pub rustMerge : ℕ → ℕ → Model → History → Model × History
-rustMerge a b m now = let r = rustRounds (suc (length (m .keys))) m now ((a, b) ∷ []) in (lowered (r .0), r .1)
+rustMerge a b m now =
+    let r = rustRounds (suc (length (m .keys))) m now ((a, b) ∷ []) [] in
+    let n = r .0 .0 in let h = r .0 .1 in
+    let ds = rustLower (length (r .1) + sum (n .depths)) (n .keys) (n .depths) (map h (r .1)) in
+    (record { created = n .created; keys = n .keys; facts = n .facts; depths = ds }, h)
 
 -- ---- its order
 
@@ -83,6 +93,10 @@ abbrev pub newestFirst : Orders Pair
 newestFirst n ps = ps
 
 -- ---- the pairs that wait
+
+-- A pair looked up.
+abbrev through : History → Pair → Pair
+through h p = (h (p .0), h (p .1))
 
 -- Of the pairs by order the Rust has each, not yet looked up, but for some of one element.
 data Waiting (h : History) : List Pair → List Pair → Type 0 where
@@ -120,6 +134,11 @@ module _ (h : History) where
       refile-waiting xs (insertKey x ks) _ _ (a .1) (insertKey-all (Yields (λ v. h v ≡ v)) x ks (a .0) b)
       (file-waiting x (find (x .0) ks) ps qs (a .0) (λ v e. find-all (Yields (λ v. h v ≡ v)) (x .0) ks v b e) w)
 
+rust-refile-all : (P : Entry → Type 0) (xs : List Entry) (r : Filed) → All P xs → All P (r .0) → All P (rustRefile xs r .0)
+unfolding rustRefile rustFile
+rust-refile-all P [] r a b = b
+rust-refile-all P (x ∷ xs) r a b = rust-refile-all P xs (rustFile x r) (a .1) (insertKey-all P x (r .0) (a .0) b)
+
 -- A pair for each key that falls away, at most.
 rust-length : (xs : List Entry) (r : Filed) → length (rustRefile xs r .0) + length (rustRefile xs r .1) ≤ length xs + (length (r .0) + length (r .1))
 unfolding rustRefile rustFile
@@ -152,53 +171,101 @@ module _ (h : History) (twice : (e : ℕ) → h (h e) ≡ h e) (a b : ℕ) where
   own-renamed : (v : ℕ) → h v ≡ v → r (h (r v)) ≡ r v
   own-renamed v e = ap r (rename-has (λ x y. h x ≡ x → h y ≡ y) _ _ (λ _. smaller-own) (λ x _ q. q) v e) ∙ renamed-stays _ _ v
 
+-- The round by order makes the same sheet, and the same pairs wait.
+record SameRound (s l : ℕ) (m : Model) (h : History) (ps qs : List Pair) : Type 0 where
+  sheet : rustInto s l m ps .0 ≡ mergeIntoBy (keysBefore 0) (newestFirst 0) s l m qs .0
+  waits : Waiting (λ e. rename s l (h e)) (rustInto s l m ps .1) (mergeIntoBy (keysBefore 0) (newestFirst 0) s l m qs .1)
+  own : Own (λ e. rename s l (h e)) (rustInto s l m ps .0 .keys)
+  less : length (rustInto s l m ps .0 .keys) + length (rustInto s l m ps .1) ≤ length (m .keys) + length ps
+
+round-same : (s l : ℕ) (m : Model) (h : History) (ps qs : List Pair) → Waiting h ps qs → ((v : ℕ) → h v ≡ v → rename s l (h (rename s l v)) ≡ rename s l v)
+    → Own h (m .keys) → SameRound s l m h ps qs
+unfolding rustInto mergeIntoBy renameEntry
+round-same s l m h ps qs w f o =
+    let xs = map (renameEntry s l) (m .keys) in
+    let hr : History = λ e. rename s l (h e) in
+    let ox : Own hr xs = all-map (Yields (λ v. h v ≡ v)) (Yields (λ v. hr v ≡ v)) (renameEntry s l) (λ x e. f (x .1) e) (m .keys) o in
+    let c = refile-waiting hr xs [] ps (map (renamePair s l) qs) ox tt (waiting-on s l h ps qs w) in
+    record {
+      sheet = λ i. record { created = m .created; keys = c .0 i; facts = refact (map (renameFact s l) (m .facts)) []; depths = mergeDepths s l (m .depths) };
+      waits = c .1;
+      own = rust-refile-all (Yields (λ v. hr v ≡ v)) xs ([], ps) ox tt;
+      less = let n = rust-length xs ([], ps) in let z = length-map (m .keys) (renameEntry s l) in omega arith;
+    }
+
 -- ---- all rounds
 
--- With pairs enough for both, the Rust's rounds are those by its order.
-rounds-same : (k j : ℕ) (m : Model) (h : History) (ps qs : List Pair) → Waiting h ps qs → length qs + length (m .keys) ≤ k → length ps + length (m .keys) ≤ j
-    → ((e : ℕ) → h (h e) ≡ h e) → Own h (m .keys) → rustRounds j m h ps ≡ mergeAllBy keysBefore newestFirst k m h qs
-unfolding rustRounds mergeAllBy mergeIntoBy renameEntry
-rounds-same zero zero m h _ _ noPair f g t o = refl
-rounds-same zero (suc j) m h _ _ noPair f g t o = refl
-rounds-same (suc k) zero m h _ _ noPair f g t o = refl
-rounds-same (suc k) (suc j) m h _ _ noPair f g t o = refl
-rounds-same zero j m h _ _ (leftOut q ps qs e w) f g t o = absurd (omega arith)
-rounds-same (suc k) j m h _ _ (leftOut q ps qs e w) f g t o =
-    rounds-same k j m h ps qs w (omega arith) g t o ∙ sym (if-true (eqb (q .0) (q .1)) _ _ (eq→eqb (q .0) (q .1) e))
-rounds-same zero j m h _ _ (pushed p ps qs w) f g t o = absurd (omega arith)
-rounds-same (suc k) zero m h _ _ (pushed p ps qs w) f g t o = absurd (omega arith)
-rounds-same (suc k) (suc j) m h _ _ (pushed p ps qs w) f g t o =
+-- With turns enough for both, the Rust's rounds are those by its order.
+rounds-same : (k j : ℕ) (m : Model) (h : History) (ps qs : List Pair) (ws : List ℕ) → Waiting h ps qs → length qs + length (m .keys) ≤ k → length ps + length (m .keys) ≤ j
+    → ((e : ℕ) → h (h e) ≡ h e) → Own h (m .keys) → mergeAllBy keysBefore newestFirst k m h qs ≡ rustRounds j m h ps ws .0
+unfolding rustRounds mergeAllBy
+rounds-same zero zero m h _ _ ws noPair f g t o = refl
+rounds-same zero (suc j) m h _ _ ws noPair f g t o = refl
+rounds-same (suc k) zero m h _ _ ws noPair f g t o = refl
+rounds-same (suc k) (suc j) m h _ _ ws noPair f g t o = refl
+rounds-same zero j m h _ _ ws (leftOut q ps qs e w) f g t o = absurd (omega arith)
+rounds-same (suc k) j m h _ _ ws (leftOut q ps qs e w) f g t o =
+    if-true (eqb (q .0) (q .1)) _ _ (eq→eqb (q .0) (q .1) e) ∙ rounds-same k j m h ps qs ws w (omega arith) g t o
+rounds-same zero j m h _ _ ws (pushed p ps qs w) f g t o = absurd (omega arith)
+rounds-same (suc k) zero m h _ _ ws (pushed p ps qs w) f g t o = absurd (omega arith)
+rounds-same (suc k) (suc j) m h _ _ ws (pushed p ps qs w) f g t o =
+    let a = h (p .0) in
+    let b = h (p .1) in
+    let r = round-same (min a b) (max a b) m h ps qs w (own-renamed h t (p .0) (p .1)) o in
+    let u = rustInto (min a b) (max a b) m ps in
+    let v = mergeIntoBy (keysBefore k) (newestFirst k) (min a b) (max a b) m qs in
+    let z = into-length (keysBefore k) (newestFirst k) same-reorders same-reorders (min a b) (max a b) m qs in
+    let y = r .less in
+    let hr : History = λ e. rename (min a b) (max a b) (h e) in
+    through-if (λ (r : (Model × History) × List ℕ). r .0) (eqb a b) (λ _. rustRounds j m h ps ws) (λ _. rustRounds j (u .0) hr (u .1) (min a b ∷ ws))
+    (λ _. mergeAllBy keysBefore newestFirst k m h qs) (λ _. mergeAllBy keysBefore newestFirst k (v .0) hr (v .1))
+    (rounds-same k j m h ps qs ws w (omega arith) (omega arith) t o)
+    (subst (λ (n : Model). mergeAllBy keysBefore newestFirst k n hr (v .1) ≡ rustRounds j (u .0) hr (u .1) (min a b ∷ ws) .0) (r .sheet)
+    (rounds-same k j (u .0) hr (u .1) (v .1) (min a b ∷ ws) (r .waits) (let e = ap (λ (n : Model). length (n .keys)) (r .sheet) in omega arith) (omega arith)
+    (λ e. own-renamed h t (p .0) (p .1) (h e) (t e)) (r .own)))
+
+-- Each key is at rest or over an element that stayed.
+abbrev Ready : (Model × History) × List ℕ → Type 0
+Ready r = All (Waits (r .0 .0 .depths) (map (r .0 .1) (r .1))) (r .0 .0 .keys)
+
+rounds-ready : (j : ℕ) (m : Model) (h : History) (ps : List Pair) (ws : List ℕ) → ((e : ℕ) → h (h e) ≡ h e) → Ready ((m, h), ws) → Ready (rustRounds j m h ps ws)
+unfolding rustRounds rustInto
+rounds-ready zero m h ps ws t w = w
+rounds-ready (suc j) m h [] ws t w = w
+rounds-ready (suc j) m h (p ∷ ps) ws t w =
     let a = h (p .0) in
     let b = h (p .1) in
     let s = min a b in
     let l = max a b in
-    let xs = map (renameEntry s l) (m .keys) in
-    let hr : History = λ e. rename s l (h e) in
-    let ox : Own hr xs = all-map (Yields (λ v. h v ≡ v)) (Yields (λ v. hr v ≡ v)) (renameEntry s l) (λ x e. own-renamed h t (p .0) (p .1) (x .1) e) (m .keys) o in
-    let rs = map (renamePair s l) qs in
-    let c = refile-waiting hr xs [] ps rs ox tt (waiting-on s l h ps qs w) in
-    let n = rust-length xs ([], ps) in
-    let nx = length-map (m .keys) (renameEntry s l) in
-    let z = into-length (keysBefore k) (newestFirst k) same-reorders same-reorders s l m qs in
-    let ek = ap length (c .0) in
-    let on = (λ i. rustRounds j (record { created = m .created; keys = c .0 i; facts = refact (map (renameFact s l) (m .facts)) []; depths = mergeDepths s l (m .depths) }) hr (rustRefile xs ([], ps) .1))
-    ∙ rounds-same k j _ hr _ _ (c .1) (omega arith) (omega arith) (λ e. own-renamed h t (p .0) (p .1) (h e) (t e)) (refile-all (Yields (λ v. hr v ≡ v)) xs ([], rs) ox tt) in
-    λ i. if (eqb a b) (λ _. rounds-same k j m h ps qs w (omega arith) (omega arith) t o i) (λ _. on i)
+    if-elim Ready (eqb a b) (λ _. rustRounds j m h ps ws) (λ _. rustRounds j (rustInto s l m ps .0) (λ e. rename s l (h e)) (rustInto s l m ps .1) (s ∷ ws))
+    (λ _. rounds-ready j m h ps ws t w) (λ d.
+    let ne = neqb→ne a b d in
+    let to = round-waits s l (λ e. ne (omega arith)) (m .depths) h (smaller-own h t (p .0) (p .1)) ws in
+    rounds-ready j (rustInto s l m ps .0) (λ e. rename s l (h e)) (rustInto s l m ps .1) (s ∷ ws) (λ e. own-renamed h t (p .0) (p .1) (h e) (t e))
+    (rust-refile-all (Waits (mergeDepths s l (m .depths)) (map (λ e. rename s l (h e)) (s ∷ ws))) (map (renameEntry s l) (m .keys)) ([], ps)
+    (all-map (Waits (m .depths) (map h ws)) (Waits (mergeDepths s l (m .depths)) (map (λ e. rename s l (h e)) (s ∷ ws))) (renameEntry s l) to (m .keys) w) tt))
 
 -- ---- so it is merging by that order, and on a sheet it is `merge`
 
-pub rust-is-by-order : (a b : ℕ) (m : Model) (now : History) → Living now m → T (known m a) → T (known m b) → rustMerge a b m now ≡ mergeBy keysBefore newestFirst a b m now
-unfolding rustMerge mergeBy
-rust-is-by-order a b m now g ka kb =
+-- On every sheet whose depths are at rest.
+pub rust-is-by-order : (a b : ℕ) (m : Model) (now : History) → AtRest (m .depths) (m .keys) → Living now m → T (known m a) → T (known m b)
+    → rustMerge a b m now ≡ mergeBy keysBefore newestFirst a b m now
+unfolding rustMerge mergeBy lowered
+rust-is-by-order a b m now c g ka kb =
     let own : (e : ℕ) → T (known m e) → now e ≡ e = λ e k. yielded-has (λ v. now v ≡ v) (m .keys) (g .own) e (known-yielded m e k) in
     let w = subst (λ (q : Pair). Waiting now ((a, b) ∷ []) (q ∷ [])) (λ i. (own a ka i, own b kb i)) (pushed (a, b) [] [] noPair) in
-    let e = rounds-same (suc (length (m .keys))) (suc (length (m .keys))) m now ((a, b) ∷ []) ((a, b) ∷ []) w (omega arith) (omega arith) (g .twice) (g .own) in
-    λ i. (lowered (e i .0), e i .1)
+    let e = rounds-same (suc (length (m .keys))) (suc (length (m .keys))) m now ((a, b) ∷ []) ((a, b) ∷ []) [] w (omega arith) (omega arith) (g .twice) (g .own) in
+    let r = rustRounds (suc (length (m .keys))) m now ((a, b) ∷ []) [] in
+    let n = r .0 .0 in
+    let y = rounds-ready (suc (length (m .keys))) m now ((a, b) ∷ []) [] (g .twice) (all-all (RestsAt (m .depths)) (Waits (m .depths) []) (λ x q. inl q) (m .keys) c) in
+    let z = length-map (r .1) (r .0 .1) in
+    let d = rust-lowers (length (r .1) + sum (n .depths)) (n .keys) (n .depths) (map (r .0 .1) (r .1)) (omega arith) y in
+    (λ i. (record { created = n .created; keys = n .keys; facts = n .facts; depths = d i }, r .0 .1)) ∙ (λ i. let q = sym e i in (lowered (q .0), q .1))
 
 pub rust-is-merge : (lim : Limits) (d : Names) (m : Model) → Neat lim d m → (a b : ℕ) → T (known m a) → T (known m b) → (now : History) → Living now m
     → rustMerge a b m now ≡ merge a b m now
 rust-is-merge lim d m g a b ka kb now l =
-    rust-is-by-order a b m now l ka kb ∙ merge-any-order lim d m g a b ka kb now keysBefore newestFirst (λ _. same-reorders) (λ _. same-reorders)
+    rust-is-by-order a b m now (g .linked .rests) l ka kb ∙ merge-any-order lim d m g a b ka kb now keysBefore newestFirst (λ _. same-reorders) (λ _. same-reorders)
 
 -- Of a sheet that passes the test of soundness, and any two of its elements.
 pub sound-rust-is-merge : (lim : Limits) (d : Names) (m : Model) → T (soundModel lim d m) → (a b : ℕ) → T (known m a) → T (known m b) → (now : History) → Living now m

@@ -56,7 +56,7 @@ lowerAt x ds = set ds (x .1) (lowest x ds)
 lowerAt-below : (x : Entry) (ds : List ℕ) (e : ℕ) → depthIn (lowerAt x ds) e ≤ depthIn ds e
 lowerAt-below x ds = set-below ds (x .1) (lowest x ds) (omega arith)
 
-set-sum : (ds : List ℕ) (v n : ℕ) → n ≤ depthIn ds v → sum (set ds v n) + depthIn ds v ≡ sum ds + n
+pub set-sum : (ds : List ℕ) (v n : ℕ) → n ≤ depthIn ds v → sum (set ds v n) + depthIn ds v ≡ sum ds + n
 unfolding sum
 set-sum [] v n l = omega arith
 set-sum (x ∷ xs) zero n l = omega arith
