@@ -13,7 +13,7 @@ unfoldable pub checked : {A : Type 0} → Read A → Checked
 checked (got a e) = Ends e
 checked (refused n p) = Refused n p
 
--- The answer of a reader: the number and the place behind it, or the refusal's number and the place of the fault.
+-- The answer where one number is read: the number and the place behind it, or the refusal's number and the place of the fault.
 unfoldable pub value : Read ℕ → Value
 value (got x e) = Is x e
 value (refused n p) = Fault n p

@@ -38,7 +38,7 @@ module _ {A : Type 0} (n : ℕ) (f : ℕ → Read A) where
   unfolding left many checked
   left-end i p h = let z : n - i ≡ 0 = omega arith in rw z
 
--- The same turns, where a reader of one number answers.
+-- The same turns, where each thing is one number.
 pub value-next : (r : Read ℕ) (x e : ℕ) → Is x e ≡ value r → Ends e ≡ checked r
 unfolding checked
 value-next r x e h = rw (value-is r x e h)

@@ -1,5 +1,12 @@
 // numbers: one number of a book read with its refusals (2, 3, 4, 5, 7), and rows of numbers of one kind.
 // Two enums answer for every reading: a number and the place behind it, or the end of what was read; else a refusal and its place.
+//
+// The reader over the book is `Reader`, a byte slice and an offset. Three thin functions stand on it, each proved by hand over
+// `number_at`, which is a plain function: `reader_at` makes a reader, `next` gives the number that it stands at, and `read_number` does
+// one after the other. Only `read_number` calls the two. By it the check of a book reads every number: in this crate `read_ranged`,
+// `read_declared` and `read_version`, and through these `check_ranges` and `check_variables`; in `terms` and `book` the kinds and the
+// argument counts. The mark is read byte by byte (`read_mark`), and what the check has let through is read again, without refusals, by
+// `words::num16`.
 use words::byte;
 use words::num16;
 use words::rest;
@@ -17,13 +24,13 @@ pub enum Checked {
     Refused(u32, usize),
 }
 
-// A reader over the book keeps the book and its place.
+// A reader over the book keeps the book and its place. It does not move: the place behind a number is in the answer.
 pub struct Reader<'a> {
     pub book: &'a [u8],
     pub at: usize,
 }
 
-// The number at a place, with the place behind it.
+// The number at a place, with the place behind it; 2 where the book ends before it.
 fn number_at(book: &[u8], at: usize) -> Value
     ensures { λ r. ⌜ r ≡ value (number (now (book .entry)) at) ⌝ }
 {
@@ -33,6 +40,7 @@ fn number_at(book: &[u8], at: usize) -> Value
     Value::Is(num16(book, at), at + 2)
 }
 
+// A reader that stands at a place.
 pub fn reader_at<'a>(book: &'a [u8], at: usize) -> Reader<'a>
     ensures { λ r. ⌜ (r .book ≡ book .entry) × (r .at ≡ at) ⌝ }
 {
@@ -46,7 +54,7 @@ pub fn next<'a>(r: Reader<'a>) -> Value
     number_at(r.book, r.at)
 }
 
-// Every number of a book is read by a reader.
+// The number at a place, read by a reader.
 pub fn read_number(book: &[u8], at: usize) -> Value
     ensures { λ r. ⌜ r ≡ value (number (now (book .entry)) at) ⌝ }
 {
