@@ -126,15 +126,6 @@ some-map P Q f g [] s = absurd (s .lower)
 some-map P Q f g (x ∷ xs) (inl p) = inl (g x p)
 some-map P Q f g (x ∷ xs) (inr s) = inr (some-map P Q f g xs s)
 
-pub some-left {ℓ κ} : {A : Type ℓ} (P : A → Type κ) (xs ys : List A) → Some P xs → Some P (xs ++ ys)
-some-left P [] ys s = absurd (s .lower)
-some-left P (x ∷ xs) ys (inl p) = inl p
-some-left P (x ∷ xs) ys (inr s) = inr (some-left P xs ys s)
-
-pub some-right {ℓ κ} : {A : Type ℓ} (P : A → Type κ) (xs ys : List A) → Some P ys → Some P (xs ++ ys)
-some-right P [] ys s = s
-some-right P (x ∷ xs) ys s = inr (some-right P xs ys s)
-
 -- The thing is an entry of the list.
 abbrev pub In {ℓ} : {A : Type ℓ} → A → List A → Type ℓ
 In x xs = Some (λ y. y ≡ x) xs

@@ -18,11 +18,6 @@ unfoldable pub value : Read ℕ → Value
 value (got x e) = Is x e
 value (refused n p) = Fault n p
 
--- Document 01's number of an answer: 0 if nothing is refused.
-unfoldable pub refusal : Checked → ℕ
-refusal (Ends e) = 0
-refusal (Refused n p) = n
-
 -- A number that was read is at most this.
 abbrev pub ValueIn : ℕ → Value → Type 0
 ValueIn high (Is x e) = x ≤ high

@@ -49,9 +49,3 @@ order-behind [] [] zs e = same zs
 order-behind [] (y ∷ ys) zs e = absurd (omega arith)
 order-behind (x ∷ xs) [] zs e = absurd (omega arith)
 order-behind (x ∷ xs) (y ∷ ys) zs e = ap (λ r. orThen (compare x y) (λ _. r)) (order-behind xs ys zs (omega arith))
-
--- One more digit.
-pub number-last : (a : ℕ) (xs : List ℕ) (d : ℕ) → numberFrom a (xs ++ d ∷ []) ≡ numberFrom a xs * 256 + d
-unfolding numberFrom
-number-last a [] d = refl
-number-last a (x ∷ xs) d = number-last (a * 256 + x) xs d

@@ -168,12 +168,6 @@ put-rises e (x ∷ xs) r = three-ways Rising (keyOf e) (keyOf x) _ _ _
     (λ g. (subst (λ k. All (λ y. k < keyOf y) xs) (sym g) (r .0), r .1))
     (λ g. (put-all (λ y. keyOf x < keyOf y) e xs g (r .0), put-rises e xs (r .1)))
 
-pub put-length : (e : ℕ) (xs : List ℕ) → (length xs ≤ length (putIn e xs)) × (length (putIn e xs) ≤ suc (length xs))
-unfolding putIn
-put-length e [] = omega arith
-put-length e (x ∷ xs) = three-ways (λ (l : List ℕ). (suc (length xs) ≤ length l) × (length l ≤ suc (suc (length xs)))) (keyOf e) (keyOf x) _ _ _
-    (λ _. omega arith) (λ _. omega arith) (λ _. omega (arith, put-length e xs))
-
 -- ---- what a look's answer says
 
 look-octet : (q : ℕ) (xs : List ℕ) (v : ℕ) → lookIn q xs ≡ some v → v < 256
