@@ -119,7 +119,7 @@ origin ns = sequent (1 ∷ 0 ∷ 1 ∷ 1 ∷ ns)
 
 abbrev pub books : List Row
 books =
-    -- What is read. Every kind of literal, term and origin: R(x, f(x)), c = z gives some y, w with y = w, P(k).
+    -- What is read: that book; and every kind of literal, term and origin, in R(x, f(x)), c = k gives some y, w with y = w, P(k).
     row (reading example) (reads (got (record {
       names = record { constants = 0; functions = []; relations = 1 ∷ []; constantWitnesses = 1; functionWitnesses = [] };
       sequents = rule 0 [] (some-of (constant 0 ∷ []) (fact 0 (cons (var 0) nil) ∷ []) ∷ []) ∷ [];
@@ -147,12 +147,16 @@ books =
     ∷ refuses 4 3 (text [] ++ (1 ∷ 1 ∷ []))
     -- The first fault decides: a wrong version before a wrong count.
     ∷ refuses 4 3 (text (0 ∷ 65 ∷ []))
-    -- Counts: 64 of each, and 65 of the first and of the last.
+    -- Counts: 64 of each, and 65 of each.
     ∷ ends 17 (text (1 ∷ 64 ∷ 0 ∷ 0 ∷ 64 ∷ 0 ∷ 0 ∷ []))
     ∷ refuses 5 5 (text (1 ∷ 65 ∷ []))
+    ∷ refuses 5 7 (text (1 ∷ 64 ∷ 65 ∷ []))
+    ∷ refuses 5 9 (text (1 ∷ 64 ∷ 64 ∷ 65 ∷ []))
+    ∷ refuses 5 11 (text (1 ∷ 64 ∷ 64 ∷ 64 ∷ 65 ∷ []))
     ∷ refuses 5 13 (text (1 ∷ 64 ∷ 64 ∷ 64 ∷ 64 ∷ 65 ∷ []))
+    ∷ refuses 2 15 (text (1 ∷ 64 ∷ 64 ∷ 64 ∷ 64 ∷ 64 ∷ []))
     -- Arities: functions and relations 0 to 4, function witnesses 1 to 4.
-    ∷ ends 25 (text (1 ∷ 0 ∷ 2 ∷ 1 ∷ 0 ∷ 1 ∷ 0 ∷ 4 ∷ 0 ∷ 1 ∷ 0 ∷ []))
+    ∷ ends 29 (text (1 ∷ 0 ∷ 2 ∷ 2 ∷ 0 ∷ 2 ∷ 0 ∷ 4 ∷ 0 ∷ 4 ∷ 1 ∷ 4 ∷ 0 ∷ []))
     ∷ refuses 5 15 (text (1 ∷ 0 ∷ 1 ∷ 0 ∷ 0 ∷ 0 ∷ 5 ∷ []))
     ∷ refuses 5 15 (text (1 ∷ 0 ∷ 0 ∷ 1 ∷ 0 ∷ 0 ∷ 5 ∷ []))
     ∷ refuses 5 15 (text (1 ∷ 0 ∷ 0 ∷ 0 ∷ 0 ∷ 1 ∷ 0 ∷ []))
@@ -184,11 +188,16 @@ books =
     ∷ ends 51 (origin (0 ∷ 0 ∷ 0 ∷ 1 ∷ 0 ∷ 0 ∷ 0 ∷ 1 ∷ []))
     ∷ refuses 7 49 (origin (0 ∷ 0 ∷ 0 ∷ 1 ∷ 0 ∷ 0 ∷ 0 ∷ 2 ∷ []))
     ∷ refuses 7 53 (sequent (1 ∷ 0 ∷ 2 ∷ 1 ∷ 0 ∷ 0 ∷ 0 ∷ 0 ∷ 0 ∷ 1 ∷ 0 ∷ 0 ∷ 0 ∷ 1 ∷ []))
-    -- Eight levels: a constant and a function without arguments may stand at the eighth, an application with arguments is 8 there.
+    -- Eight levels: a constant, a function without arguments and a variable may stand at the eighth, an application with arguments is 8
+    -- there. Either side of an identity is level 1.
     ∷ ends 69 (body (nested 7 ++ (1 ∷ 0 ∷ [])))
     ∷ ends 69 (body (nested 7 ++ (2 ∷ 1 ∷ [])))
     ∷ refuses 8 65 (body (nested 8 ++ (1 ∷ 0 ∷ [])))
     ∷ refuses 7 65 (body (nested 7 ++ (2 ∷ 2 ∷ [])))
+    ∷ ends 69 (sequent (1 ∷ 1 ∷ 0 ∷ 0 ∷ nested 7 ++ (0 ∷ 0 ∷ 0 ∷ [])))
+    ∷ ends 99 (sequent (0 ∷ 1 ∷ 1 ∷ nested 7 ++ (1 ∷ 0 ∷ nested 7 ++ (1 ∷ 0 ∷ 0 ∷ []))))
+    ∷ refuses 8 63 (sequent (0 ∷ 1 ∷ 1 ∷ nested 8))
+    ∷ refuses 8 67 (sequent (0 ∷ 1 ∷ 1 ∷ 1 ∷ 0 ∷ nested 8))
     -- An origin: its witness, counted by kind; its argument count, of which any wrong one is 9; its arguments, which are free variables.
     ∷ ends 43 (origin (0 ∷ 1 ∷ 0 ∷ 0 ∷ []))
     ∷ refuses 7 37 (origin (0 ∷ 2 ∷ []))
@@ -198,6 +207,18 @@ books =
     ∷ refuses 9 39 (origin (1 ∷ 0 ∷ 5 ∷ []))
     ∷ ends 45 (origin (1 ∷ 0 ∷ 1 ∷ 0 ∷ 0 ∷ []))
     ∷ refuses 7 41 (origin (1 ∷ 0 ∷ 1 ∷ 1 ∷ 0 ∷ []))
+    -- The second of two function witnesses, of two arguments, at the one free variable twice.
+    ∷ ends 41 (text (1 ∷ 0 ∷ 0 ∷ 0 ∷ 0 ∷ 2 ∷ 1 ∷ 2 ∷ 1 ∷ 1 ∷ 0 ∷ 1 ∷ 1 ∷ 1 ∷ 1 ∷ 2 ∷ 0 ∷ 0 ∷ 0 ∷ []))
+    -- Every number has two bytes: a count of 257, relation 256, and 256 or 257 for the kind of a literal, of a term, of an origin, and for
+    -- an argument count.
+    ∷ refuses 5 5 (text (1 ∷ []) ++ (1 ∷ 1 ∷ []))
+    ∷ refuses 7 33 (sequent (0 ∷ 1 ∷ 0 ∷ []) ++ (0 ∷ 1 ∷ []))
+    ∷ refuses 6 31 (sequent (0 ∷ 1 ∷ []) ++ (0 ∷ 1 ∷ []))
+    ∷ refuses 6 35 (sequent (0 ∷ 1 ∷ 0 ∷ 0 ∷ []) ++ (1 ∷ 1 ∷ []))
+    ∷ refuses 6 35 (origin [] ++ (0 ∷ 1 ∷ []))
+    ∷ refuses 9 39 (origin (0 ∷ 0 ∷ []) ++ (0 ∷ 1 ∷ []))
+    -- Two sequents, one behind the other.
+    ∷ ends 39 (named (2 ∷ 0 ∷ 0 ∷ 0 ∷ 0 ∷ 0 ∷ 0 ∷ []))
     -- Bytes left over: one, and two.
     ∷ refuses 10 27 (named (0 ∷ []) ++ (0 ∷ []))
     ∷ refuses 10 27 (named (0 ∷ 0 ∷ []))
@@ -209,6 +230,13 @@ books =
 abbrev of-sequents : ℕ → Book
 of-sequents n = record
     { names = record { constants = 1; functions = 1 ∷ []; relations = 1 ∷ []; constantWitnesses = 1; functionWitnesses = [] }; sequents = replicate n (rule 0 [] []) }
+
+-- A book without sequents: so many constants, functions, relations, constant witnesses and function witnesses, all of one argument.
+abbrev declares : ℕ → ℕ → ℕ → ℕ → ℕ → Book
+declares c f r cw fw = record {
+  names = record { constants = c; functions = replicate f 1; relations = replicate r 1; constantWitnesses = cw; functionWitnesses = replicate fw 1 };
+  sequents = [];
+}
 
 -- A lone sheet: number 0, place 0, two elements, two keys and two facts counted; from 16 on the keys a->0, f(0)->1 and room for a third,
 -- from 40 on the facts P(0), P(1), from 56 on the depths 0, 1.
@@ -233,6 +261,9 @@ pool-is r cs = row (pool (of-sequents 2) (but cs whole-pool)) (right r)
 abbrev sheet-is : Bool → ℕ → List (ℕ × ℕ) → Row
 sheet-is r n cs = row (sheet (of-sequents n) (but cs whole)) (right r)
 
+abbrev sheet-by : Bool → Book → List (ℕ × ℕ) → Row
+sheet-by r b cs = row (sheet b (but cs whole)) (right r)
+
 abbrev pub images : List Row
 images =
     pool-is true []
@@ -245,12 +276,15 @@ images =
     ∷ pool-is true ((6, 1) ∷ [])
     ∷ pool-is false ((6, 2) ∷ [])
     ∷ pool-is false ((7, 1) ∷ [])
-    -- A number equal to the next one; numbers used up, and beyond that.
+    -- A number equal to the next one, whatever list names it; numbers used up, and beyond that; a pool without sheets, whose next is 0.
     ∷ pool-is false ((8, 0) ∷ [])
+    ∷ pool-is false ((8, 0) ∷ (12, 0) ∷ (13, 1) ∷ [])
+    ∷ pool-is false ((8, 0) ∷ (12, 0) ∷ (14, 1) ∷ [])
     ∷ pool-is false ((208, 1) ∷ [])
     ∷ pool-is true ((208, 1) ∷ (8, 2) ∷ [])
     ∷ pool-is true ((8, 0) ∷ (10, 1) ∷ [])
     ∷ pool-is false ((10, 1) ∷ [])
+    ∷ row (pool (of-sequents 2) (77 ∷ 68 ∷ 76 ∷ 1 ∷ replicate 320 0)) (right true)
     -- Lists: a sheet that none names, one that two name or one names twice, a slot that is not there, bytes behind a list's end.
     ∷ pool-is false ((12, 0) ∷ [])
     ∷ pool-is false ((13, 1) ∷ [])
@@ -261,13 +295,23 @@ images =
     ∷ pool-is false ((12, 65) ∷ [])
     ∷ pool-is true ((12, 0) ∷ (13, 1) ∷ [])
     ∷ pool-is true ((12, 0) ∷ (14, 1) ∷ [])
-    -- An unused slot that is not zero; two sheets with one number, and with two.
+    -- An unused slot that is not zero, be it a number, a place, or a count of elements, keys or facts; two sheets with one number, in one
+    -- list or in two, and with two, in whichever order.
     ∷ pool-is false ((266, 1) ∷ (8, 2) ∷ [])
+    ∷ pool-is false ((268, 1) ∷ [])
+    ∷ pool-is false ((270, 1) ∷ [])
+    ∷ pool-is false ((272, 1) ∷ [])
+    ∷ pool-is false ((274, 1) ∷ [])
     ∷ pool-is false ((12, 2) ∷ (17, 1) ∷ [])
+    ∷ pool-is false ((13, 1) ∷ (80, 1) ∷ [])
+    ∷ pool-is false ((14, 1) ∷ (144, 1) ∷ [])
     ∷ pool-is true ((12, 2) ∷ (17, 1) ∷ (266, 1) ∷ (8, 2) ∷ [])
+    ∷ pool-is true ((12, 2) ∷ (16, 1) ∷ (266, 1) ∷ (8, 2) ∷ [])
     ∷ pool-is true ((14, 1) ∷ (144, 1) ∷ (266, 1) ∷ (8, 2) ∷ [])
-    -- Places: under Linear 0 alone; under Fair below the sequent count, or 0.
+    -- Places, whatever list names the sheet: under Linear 0 alone; under Fair below the sequent count, or 0.
     ∷ pool-is false ((210, 1) ∷ [])
+    ∷ pool-is false ((210, 1) ∷ (12, 0) ∷ (13, 1) ∷ [])
+    ∷ pool-is false ((210, 1) ∷ (12, 0) ∷ (14, 1) ∷ [])
     ∷ pool-is true ((210, 1) ∷ (6, 1) ∷ [])
     ∷ pool-is false ((210, 2) ∷ (6, 1) ∷ [])
     ∷ row (pool (of-sequents 0) (but ((6, 1) ∷ []) whole-pool)) (right true)
@@ -302,6 +346,21 @@ images =
     ∷ sheet-is false 0 ((27, 2) ∷ [])
     ∷ sheet-is false 0 ((28, 1) ∷ [])
     ∷ sheet-is false 0 ((32, 1) ∷ [])
+    -- An argument that was merged away: a->0, f(1)->0, two elements created.
+    ∷ sheet-is false 0 ((27, 1) ∷ (31, 0) ∷ (8, 1) ∷ (50, 0) ∷ (51, 0) ∷ (57, 0) ∷ [])
+    -- A constant and a constant witness of one argument.
+    ∷ sheet-is false 0 ((24, 1) ∷ [])
+    ∷ sheet-is false 0 ((24, 3) ∷ [])
+    -- Each kind is declared by its own count: constants, functions, relations; with a constant witness for f(0), and with a function
+    -- witness for f.
+    ∷ sheet-by true (declares 1 1 1 0 0) []
+    ∷ sheet-by false (declares 0 1 1 1 1) []
+    ∷ sheet-by false (declares 1 0 1 1 1) []
+    ∷ sheet-by false (declares 1 1 0 1 1) []
+    ∷ sheet-by true (declares 1 0 1 1 0) ((24, 3) ∷ (26, 0) ∷ (57, 0) ∷ [])
+    ∷ sheet-by false (declares 1 1 1 0 1) ((24, 3) ∷ (26, 0) ∷ (57, 0) ∷ [])
+    ∷ sheet-by true (declares 1 0 1 0 1) ((24, 4) ∷ [])
+    ∷ sheet-by false (declares 1 1 1 1 0) ((24, 4) ∷ [])
     -- A key twice; keys in the wrong order, f(0) before a.
     ∷ sheet-is false 0 ((24, 1) ∷ (26, 0) ∷ (57, 0) ∷ [])
     ∷ sheet-is false 0 ((16, 2) ∷ (18, 1) ∷ (23, 1) ∷ (24, 1) ∷ (26, 0) ∷ (31, 0) ∷ [])
@@ -330,6 +389,13 @@ images =
 
 -- ---- calls
 
+-- [] gives some x, in no literal. And: [] gives P(f(a)).
+abbrev unmentioned : Bytes
+unmentioned = text (1 ∷ 0 ∷ 0 ∷ 0 ∷ 1 ∷ 0 ∷ 1 ∷ 0 ∷ 0 ∷ 1 ∷ 1 ∷ 0 ∷ 0 ∷ 0 ∷ 0 ∷ [])
+
+abbrev deep : Bytes
+deep = named (1 ∷ 0 ∷ 0 ∷ 1 ∷ 0 ∷ 1 ∷ 0 ∷ 0 ∷ 2 ∷ 0 ∷ 1 ∷ 0 ∷ [])
+
 -- The pool of one slot that open writes: the next number 1, model 0 waiting.
 abbrev fresh : Bytes
 fresh = 77 ∷ 68 ∷ 76 ∷ 1 ∷ 0 ∷ 0 ∷ 0 ∷ 0 ∷ 1 ∷ 0 ∷ 0 ∷ 0 ∷ 1 ∷ replicate 2323 0
@@ -337,6 +403,14 @@ fresh = 77 ∷ 68 ∷ 76 ∷ 1 ∷ 0 ∷ 0 ∷ 0 ∷ 0 ∷ 1 ∷ 0 ∷ 0 ∷ 0 �
 -- The sheet that a step leaves there: number 1, constant witness 0 yields 0, P(0), depth 0.
 abbrev stepped-sheet : Bytes
 stepped-sheet = 1 ∷ 0 ∷ 0 ∷ 0 ∷ 1 ∷ 0 ∷ 1 ∷ 0 ∷ 1 ∷ replicate 7 0 ++ (3 ∷ replicate 1025 0 ++ (1 ∷ replicate 1085 0))
+
+-- The one without P(0).
+abbrev named-sheet : Bytes
+named-sheet = but ((8, 0) ∷ (1042, 0) ∷ []) stepped-sheet
+
+-- The pool in which a step left a bounded child without anything.
+abbrev cut-pool : Bytes
+cut-pool = but ((8, 2) ∷ (12, 0) ∷ (14, 1) ∷ (208, 1) ∷ []) fresh
 
 -- A pool of two slots in which nothing waits, the next number 2, slot 0 with the empty model 0 and slot 1 with that sheet, where these
 -- lists, complete and bounded, name them.
@@ -369,25 +443,32 @@ calls =
     ∷ row (size 2337) (right false)
     ∷ row (size 138528) (right false)
     ∷ row (size 0) (right false)
-    -- Open: done; then 12 for either setting, 11 before 12, and the book's refusal before both.
+    -- Open: done, with all slots; then 12 for either setting, 11 before 12, and the book's refusal before both.
     ∷ row (opening example (replicate 2336 7) 0 0) (left 0 fresh)
     ∷ row (opening example (replicate 2336 7) 1 0) (left 0 (but ((5, 1) ∷ []) fresh))
     ∷ row (opening example (replicate 2336 7) 0 1) (left 0 (but ((6, 1) ∷ []) fresh))
+    ∷ row (opening example (replicate 4464 7) 0 0) (left 0 (fresh ++ replicate 2128 0))
     ∷ row (opening example (replicate 2336 7) 2 0) (left 12 (replicate 2336 7))
     ∷ row (opening example (replicate 2336 7) 0 2) (left 12 (replicate 2336 7))
     ∷ row (opening example (replicate 9 7) 2 0) (left 11 (replicate 9 7))
     ∷ row (opening (text []) (replicate 9 7) 2 0) (left 2 (replicate 9 7))
-    -- Step: done; nothing waiting; 12 for an unknown bound, and for Unbounded with a number, before 13; 11 before 12.
+    -- Step: done, with what is appended, and under each bound; nothing waiting; 12 for an unknown bound, and for Unbounded with a number, before 13; 11 before 12.
     ∷ row (stepping example fresh 0 0) (left 0 (but ((8, 2) ∷ []) (take 208 fresh) ++ stepped-sheet))
-    ∷ row (stepping example fresh 1 0) (left 0 (but ((8, 2) ∷ (12, 0) ∷ (14, 1) ∷ (208, 1) ∷ []) fresh))
+    ∷ row (stepping unmentioned fresh 0 0) (left 0 (but ((8, 2) ∷ []) (take 208 fresh) ++ named-sheet))
+    ∷ row (stepping example fresh 1 0) (left 0 cut-pool)
+    ∷ row (stepping example fresh 2 0) (left 0 (but ((8, 2) ∷ []) (take 208 fresh) ++ stepped-sheet))
+    ∷ row (stepping example fresh 3 0) (left 0 (but ((8, 2) ∷ []) (take 208 fresh) ++ stepped-sheet))
+    ∷ row (stepping deep fresh 2 0) (left 0 cut-pool)
+    ∷ row (stepping deep fresh 3 0) (left 0 cut-pool)
     ∷ row (stepping example (but ((12, 0) ∷ []) fresh) 3 9) (left 14 (but ((12, 0) ∷ []) fresh))
     ∷ row (stepping example (replicate 2336 7) 3 9) (left 13 (replicate 2336 7))
     ∷ row (stepping example (replicate 2336 7) 4 9) (left 12 (replicate 2336 7))
     ∷ row (stepping example (replicate 2336 7) 0 1) (left 12 (replicate 2336 7))
     ∷ row (stepping example [] 4 9) (left 11 [])
-    -- Run: done, with its stop and its steps; no budget; 13 without a budget, too, and no steps.
+    -- Run: done, with its stop and its steps, and with what is appended; no budget; 13 without a budget, too, and no steps.
     ∷ row (running example fresh 0 0 2) (ran 0 2 (but ((8, 2) ∷ (12, 0) ∷ (13, 1) ∷ []) (take 208 fresh) ++ stepped-sheet))
     ∷ row (running example fresh 0 0 3) (ran 14 2 (but ((8, 2) ∷ (12, 0) ∷ (13, 1) ∷ []) (take 208 fresh) ++ stepped-sheet))
+    ∷ row (running unmentioned fresh 0 0 1) (ran 0 1 (but ((8, 2) ∷ []) (take 208 fresh) ++ named-sheet))
     ∷ row (running example fresh 0 0 0) (ran 0 0 fresh)
     ∷ row (running example (replicate 2336 7) 0 0 0) (ran 13 0 (replicate 2336 7))
     ∷ row (running example (replicate 2336 7) 0 1 0) (ran 12 0 (replicate 2336 7))

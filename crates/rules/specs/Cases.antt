@@ -1,4 +1,5 @@
--- What a row of the table of steps is, and the words that its rows are written in. The rows and the claim over them are in Corners.
+-- What a row of the table of steps is, and the words that its rows are written in. The rows are in Corners and PoolRows, the claim
+-- over them in Corners.
 use Prim.Native.Nat.{ℕ, _-_}
 use mathlib.Core.List.{List, [], _∷_, _++_, map}
 use lib.ListN.{length, replicate}
@@ -38,7 +39,7 @@ did k = run (k .lim) (k .budget) (k .bound) (map completed (k .sequents)) (k .be
 
 -- ---- rules
 
--- Constants, functions of one argument and of two, and the first three variables.
+-- Constants, functions of one argument, of two and of none, and the first three variables.
 abbrev pub a : Term
 a = con 0
 
@@ -53,6 +54,9 @@ g t = app 1 (cons t nil)
 
 abbrev pub h : Term → Term → Term
 h s t = app 2 (cons s (cons t nil))
+
+abbrev pub k : Term
+k = app 3 nil
 
 abbrev pub x : Term
 x = var 0
@@ -103,6 +107,10 @@ rule v bs ds = record { free = v; body = bs; head = ds }
 abbrev pub always : List Literal → Sequent
 always ls = rule 0 [] (plain ls ∷ [])
 
+-- [] gives P(a) or R(a).
+abbrev pub either : Sequent
+either = rule 0 [] (plain (P a ∷ []) ∷ plain (R a ∷ []) ∷ [])
+
 -- ---- sheets
 
 abbrev pub model : ℕ → List Entry → List Fact → List ℕ → Model
@@ -127,6 +135,9 @@ g↦ e v = (key 2 1 (e ∷ []), v)
 abbrev pub h↦ : ℕ → ℕ → ℕ → Entry
 h↦ d e v = (key 2 2 (d ∷ e ∷ []), v)
 
+abbrev pub k↦ : ℕ → Entry
+k↦ v = (key 2 3 [], v)
+
 abbrev pub constant↦ : ℕ → ℕ → Entry
 constant↦ w v = (key 3 w [], v)
 
@@ -145,6 +156,9 @@ isS e = rel 2 (e ∷ [])
 
 abbrev pub isQ : ℕ → ℕ → Fact
 isQ d e = rel 3 (d ∷ e ∷ [])
+
+abbrev pub isN : Fact
+isN = rel 4 []
 
 -- Nothing; a alone; a and b as two elements, and as one that was two.
 abbrev pub nothing : Model

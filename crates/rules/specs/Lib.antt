@@ -14,5 +14,6 @@ pub mod Sound
 pub mod Calls
 pub mod Arrangement
 pub mod Cases
+pub mod PoolRows
 pub mod Corners
 pub mod ByteCorners

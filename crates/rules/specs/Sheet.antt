@@ -20,8 +20,8 @@ pub record Fact : Type 0 where
 abbrev pub Entry : Type 0
 Entry = Key × ℕ
 
--- What a sheet says of a kind of session: how many elements were created, keys with values, facts, and a depth for each
--- created element (0 for one that was merged away).
+-- A model: how many elements were created, keys with values, facts, and a depth for each created element (0 for one that was merged
+-- away).
 pub record Model : Type 0 where
   pub created : ℕ
   pub keys : List Entry
