@@ -195,6 +195,15 @@ exchange-not g =
     let p : _≡_ {A = ℕ} 1 0 = ap (λ x. other (x ∷ [])) e ∙ g .keys .1 .0 ∙ sym e in
     omega arith
 
+-- A fact alone may keep a sheet from fitting: a->0 with Q(0), where `exchange` has 0 for a and Q true of 1 alone.
+pub fact-not : Fits exchange (model 1 (a↦ 0 ∷ []) (rel 1 (0 ∷ []) ∷ []) (0 ∷ [])) → ⊥
+unfolding if
+fact-not g = go (g .give 0) (g .keys .0) (g .facts .0)
+  where
+    go : (n : ℕ) → 0 ≡ n → T (not (isZero (n ∷ []))) → ⊥
+    go zero e t = t
+    go (suc n) e t = omega arith
+
 -- Without a true Q the second rule is broken.
 pub false-breaks : Keeps (arranged (λ _. false)) book → ⊥
 unfolding if bodyTrue headTrue disjunctTrue isTrue eval originValue entries
