@@ -1,6 +1,6 @@
 -- The rule book as data (01, "The rule book"): what is typed, in the order in which it is typed.
 -- What the reader appends to a disjunct is a function of it (`completed`), so that a writer can give the bytes back.
-use Prim.Native.Nat.{ℕ, suc, _+_}
+use Prim.Native.Nat.{ℕ, suc}
 use mathlib.Core.Bool.{Bool, false, _||_}
 use mathlib.Core.List.{List, [], _∷_, _++_, map}
 use lib.Dec.{eqb}
