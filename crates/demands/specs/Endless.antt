@@ -26,7 +26,7 @@ use Rattle.rules.specs.Calls.{OpenPromise}
 use Rattle.rules.specs.Arrangement.{KeepsAll}
 use Rattle.laws.specs.Tables.{find-all}
 use Rattle.soundness.specs.Tools.{Yields, Yielded, all-yielded, yielded-known}
-use Rattle.fitting.specs.Real.{P, a, f}
+use Rattle.rules.specs.Cases.{a, f, P}
 use Rattle.fitting.specs.Things.{endless}
 use Rattle.demands.specs.Worlds.{Call, World, Played, begun, stateOf}
 use Rattle.demands.specs.Demands.{demand-three}

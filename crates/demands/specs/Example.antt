@@ -4,33 +4,25 @@ use mathlib.Core.Path.{_≡_, refl, sym}
 use Prim.Native.Nat.{ℕ}
 use mathlib.Core.List.{List, [], _∷_}
 use lib.ListN.{length, replicate}
-use Rattle.base.specs.Branch.{if}
-use Rattle.base.specs.Lists.{equal, distinct}
-use Rattle.rules.specs.Book.{Term, var, terms, Literal, fact, same, cons, nil, Sequent, Book, appended, completedDisjunct, completed, rules}
-use Rattle.rules.specs.Reading.{Bytes, got, caseRead, andThen, giving, many, num, number, ranged, declared, markByte, mark, version, namesAt, levels, termAt, literalAt, witnesses, witnessArity, originAt, disjunctAt, sequentAt, readBook}
-use Rattle.rules.specs.Fire.{places}
-use Rattle.rules.specs.Pool.{schedulers, strategies}
-use Rattle.rules.specs.Image.{word, long, padded, entryBytes, keyBytes, factBytes, sheetHead, sheetBytes, poolMark, mostSlots, poolHead, poolBytes, headSize, sheetSize, slotsIn, part, argsIn, keyIn, factIn, parts, sheetIn, listIn, poolIn}
-use Rattle.rules.specs.Sound.{risingFrom, rising, hasArity, declaredAs, keyDeclared, factDeclared, least, depthRight, soundModel, soundSheet, isBlank, soundLists, soundNumbers, soundState, sound}
-use Rattle.rules.specs.Calls.{rightLength, bounds, boundOf, knownBound, checked, soundly, outcome, openCall, RunOutcome, runCall}
+use Rattle.rules.specs.Book.{var, same, Sequent, Book, rules}
+use Rattle.rules.specs.Reading.{Bytes, got, readBook}
+use Rattle.rules.specs.Calls.{openCall, RunOutcome, runCall}
+use Rattle.rules.specs.Cases.{a, b, f, P, R, S, plain, rule}
+use Rattle.rules.specs.ByteCorners.{answered}
 use Rattle.rules.specs.Arrangement.{Arrangement, Keeps}
-use Rattle.fitting.specs.Real.{ended, P, Q, a, b, f, plain, rule}
 use Rattle.demands.specs.Worlds.{running, World, left, ran, nothing, next, begun, Empty}
 use Rattle.demands.specs.Demands.{demand-three}
 
 -- ---- the book
 
-abbrev R : Term → Literal
-R t = fact 2 (cons t nil)
-
--- [] gives R(a), or P(f(a)) and Q(f(b)); R(x) gives nothing; [] gives a = b; P(x), Q(x) gives nothing.
+-- [] gives S(a), or P(f(a)) and R(f(b)); S(x) gives nothing; [] gives a = b; P(x), R(x) gives nothing.
 -- The first branch fails at once, the other only because f(a) and f(b) become one when a and b do.
 abbrev pub refuted : List Sequent
 refuted =
-    rule 0 [] (plain (R a ∷ []) ∷ plain (P (f a) ∷ Q (f b) ∷ []) ∷ [])
-    ∷ rule 1 (R (var 0) ∷ []) []
+    rule 0 [] (plain (S a ∷ []) ∷ plain (P (f a) ∷ R (f b) ∷ []) ∷ [])
+    ∷ rule 1 (S (var 0) ∷ []) []
     ∷ rule 0 [] (plain (same a b ∷ []) ∷ [])
-    ∷ rule 1 (P (var 0) ∷ Q (var 0) ∷ []) []
+    ∷ rule 1 (P (var 0) ∷ R (var 0) ∷ []) []
     ∷ []
 
 -- Two constants, one function and three relations, each of one argument.
@@ -58,15 +50,9 @@ text = 82 ∷ 85 ∷ 76 ∷ numbers (1 ∷ 2 ∷ 1 ∷ 3 ∷ 0 ∷ 0 ∷ 1 ∷ 1
 unfoldable pub opened : Bytes
 opened = openCall text (replicate 4464 0) 0 0 .pool
 
--- Its `unfolding` line names every function of the calls, those of a step by `ended`: what says `unfolding ran-once` computes.
+-- Its `unfolding` line names every function of the calls, by `answered`: what says `unfolding ran-once` computes.
 unfoldable pub ran-once : RunOutcome
-unfolding opened text if ended
-    caseRead andThen giving many num number ranged declared markByte mark version namesAt levels termAt literalAt witnesses witnessArity originAt disjunctAt sequentAt
-    Rattle.rules.specs.Reading.ended readBook terms appended completedDisjunct completed rules places schedulers strategies
-    word long padded entryBytes keyBytes factBytes sheetHead sheetBytes poolMark mostSlots poolHead poolBytes headSize sheetSize slotsIn
-    part argsIn keyIn factIn parts sheetIn listIn poolIn equal distinct
-    risingFrom rising hasArity declaredAs keyDeclared factDeclared least depthRight soundModel soundSheet isBlank soundLists soundNumbers soundState sound
-    rightLength bounds boundOf knownBound checked soundly outcome openCall runCall
+unfolding opened text answered
 ran-once = runCall text opened 0 0 100
 
 pub text-reads : readBook text ≡ got book (length text)

@@ -9,18 +9,17 @@ use mathlib.Core.Logic.{_⊎_, inl, inr}
 use mathlib.Core.Option.{none, some}
 use mathlib.Core.List.{List, [], _∷_, _++_, map}
 use lib.Dec.{T, eqb}
-use Rattle.base.specs.Branch.{if, caseO, caseL, three, order}
-use Rattle.base.specs.Lists.{Some, mem, without, firsts, keep, firstOf, from, entries, flat}
+use Rattle.base.specs.Branch.{if}
+use Rattle.base.specs.Lists.{Some, entries}
 use Rattle.base.specs.BranchLaws.{if-elim}
-use Rattle.rules.specs.Book.{Term, var, con, app, nil, cons, Literal, fact, same, Disjunct, Sequent}
-use Rattle.rules.specs.Sheet.{key, Fact, rel, Entry, Model, Sheet, find, holds, insertKey, insertFact, domain, known, empty, blank, limits}
-use Rattle.rules.specs.Look.{originMeaning, bodyMeanings, headMeanings, lookMeaning, look, observed}
-use Rattle.rules.specs.Fire.{choices, bodyObserved, disjunctObserved, headObserved, fires, numbered, firing, linear, visits, placeAfter}
-use Rattle.rules.specs.Bound.{unbounded, admits, depthOver, depthAt, depthMeaning, depth, termsOf, admitted}
-use Rattle.rules.specs.Merge.{rename, renameEntry, renameFact, insertEntry, inOrder, file, refile, refact, mergeDepths, mergeInto, mergeAll, lowerBy, sum, lower, lowered, merge}
-use Rattle.rules.specs.Child.{add, put, putMeaning, enter, tooBig, recorded, tell, tells, child}
-use Rattle.rules.specs.Pool.{State, schedulerOf, strategyOf, numbers, sheetAt, sheetsAt, used, free, opened, changed, freed}
-use Rattle.rules.specs.Step.{placed, stored, openSlots, cutSlots, pushed, schedule, refuse, done, withPlaced, withoutBase, withChildren, stepOn, step, run}
+use Rattle.rules.specs.Book.{var, same, Disjunct, Sequent}
+use Rattle.rules.specs.Sheet.{rel, Model, Sheet, limits}
+use Rattle.rules.specs.Fire.{bodyObserved, firing, linear, visits}
+use Rattle.rules.specs.Bound.{unbounded}
+use Rattle.rules.specs.Child.{child}
+use Rattle.rules.specs.Pool.{State, sheetsAt, opened}
+use Rattle.rules.specs.Step.{run}
+use Rattle.rules.specs.Cases.{did, a, b, f, P, R, function, some-of, plain, rule, model, a↦, b↦, f↦, function↦}
 use Rattle.rules.specs.Arrangement.{Arrangement, eval, isTrue, originValue, bodyTrue, disjunctTrue, headTrue, Keeps, KeepsRule, Fits}
 use Rattle.laws.specs.Firing.{visits-within}
 use Rattle.fitting.specs.Fire.{Held, held-fits, fired-held}
@@ -38,16 +37,9 @@ pub record Ended : Type 0 where
 unfoldable pub models : State → List ℕ → List Model
 models s is = map (λ (x : Sheet). x .model) (sheetsAt s is)
 
--- Its `unfolding` line names every function of a run: what says `unfolding ended` computes.
+-- Its `unfolding` line names every function of a run, by `did`: what says `unfolding ended` computes.
 unfoldable pub ended : List Sequent → Ended
-unfolding if caseO caseL three order mem without firsts keep firstOf from entries flat
-    find holds insertKey insertFact domain known empty blank limits originMeaning bodyMeanings headMeanings lookMeaning look observed
-    choices bodyObserved disjunctObserved headObserved fires numbered firing visits placeAfter
-    admits depthOver depthAt depthMeaning depth termsOf admitted
-    rename renameEntry renameFact insertEntry inOrder file refile refact mergeDepths mergeInto mergeAll lowerBy sum lower lowered merge
-    add put putMeaning enter tooBig recorded tell tells child
-    schedulerOf strategyOf numbers sheetAt sheetsAt used free opened changed freed
-    placed stored openSlots cutSlots pushed schedule refuse done withPlaced withoutBase withChildren stepOn step run models
+unfolding did limits opened sheetsAt models
 ended rs =
     let r = run limits 1000 unbounded rs (opened 0 0 12) in
     let s = r .state in
@@ -57,60 +49,18 @@ ended rs =
 abbrev pub leaves : ℕ → List Model → Ended
 leaves n ms = record { stop = 14; steps = n; waiting = []; complete = ms; bounded = [] }
 
--- ---- words
-
-abbrev pub P : Term → Literal
-P t = fact 0 (cons t nil)
-
-abbrev pub Q : Term → Literal
-Q t = fact 1 (cons t nil)
-
-abbrev pub a : Term
-a = con 0
-
-abbrev pub b : Term
-b = con 1
-
-abbrev pub f : Term → Term
-f t = app 0 (cons t nil)
-
-abbrev pub plain : List Literal → Disjunct
-plain ls = record { origins = []; literals = ls }
-
--- An existential that is function witness 0 at variable 0.
-abbrev some-y : List Literal → Disjunct
-some-y ls = record { origins = record { kind = 1; witness = 0; args = 0 ∷ [] } ∷ []; literals = ls }
-
-abbrev pub rule : ℕ → List Literal → List Disjunct → Sequent
-rule v bs ds = record { free = v; body = bs; head = ds }
-
-abbrev pub model : ℕ → List Entry → List Fact → List ℕ → Model
-model n ks fs ds = record { created = n; keys = ks; facts = fs; depths = ds }
-
-abbrev pub a↦ : ℕ → Entry
-a↦ v = (key 1 0 [], v)
-
-abbrev b↦ : ℕ → Entry
-b↦ v = (key 1 1 [], v)
-
-abbrev pub f↦ : ℕ → ℕ → Entry
-f↦ x v = (key 2 0 (x ∷ []), v)
-
-abbrev w↦ : ℕ → ℕ → Entry
-w↦ x v = (key 4 0 (x ∷ []), v)
-
 -- ---- a book and its two complete models
 
--- P(x) gives some y Q(f(y)), or f(x) = x.
+-- P(x) gives some y R(f(y)), or f(x) = x.
 abbrev pub splits : Sequent
-splits = rule 1 (P (var 0) ∷ []) (some-y (Q (f (var 1)) ∷ []) ∷ plain (same (f (var 0)) (var 0) ∷ []) ∷ [])
+splits = rule 1 (P (var 0) ∷ []) (some-of (function (0 ∷ []) ∷ []) (R (f (var 1)) ∷ []) ∷ plain (same (f (var 0)) (var 0) ∷ []) ∷ [])
 
 -- [] gives P(a); and that.
 abbrev pub book : List Sequent
 book = rule 0 [] (plain (P a ∷ []) ∷ []) ∷ splits ∷ []
 
 abbrev pub split : Model
-split = model 3 (a↦ 0 ∷ f↦ 1 2 ∷ w↦ 0 1 ∷ []) (rel 0 (0 ∷ []) ∷ rel 1 (2 ∷ []) ∷ []) (0 ∷ 1 ∷ 2 ∷ [])
+split = model 3 (a↦ 0 ∷ f↦ 1 2 ∷ function↦ (0 ∷ []) 1 ∷ []) (rel 0 (0 ∷ []) ∷ rel 1 (2 ∷ []) ∷ []) (0 ∷ 1 ∷ 2 ∷ [])
 
 abbrev pub fixed : Model
 fixed = model 2 (a↦ 0 ∷ f↦ 0 0 ∷ []) (rel 0 (0 ∷ []) ∷ []) (0 ∷ 0 ∷ [])
@@ -149,7 +99,7 @@ other-low [] = omega arith
 other-low (zero ∷ xs) = omega arith
 other-low (suc n ∷ xs) = omega arith
 
--- Things 0 and 1. f exchanges them, all else is 0. P is true of 0 alone, Q as is told.
+-- Things 0 and 1. f exchanges them, all else is 0. P is true of 0 alone, R as is told.
 abbrev pub arranged : (List ℕ → Bool) → Arrangement
 arranged q = record {
   thing = λ n. n < 2;
@@ -195,7 +145,7 @@ exchange-not g =
     let p : _≡_ {A = ℕ} 1 0 = ap (λ x. other (x ∷ [])) e ∙ g .keys .1 .0 ∙ sym e in
     omega arith
 
--- A fact alone may keep a sheet from fitting: a->0 with Q(0), where `exchange` has 0 for a and Q true of 1 alone.
+-- A fact alone may keep a sheet from fitting: a->0 with R(0), where `exchange` has 0 for a and R true of 1 alone.
 pub fact-not : Fits exchange (model 1 (a↦ 0 ∷ []) (rel 1 (0 ∷ []) ∷ []) (0 ∷ [])) → ⊥
 unfolding if
 fact-not g = go (g .give 0) (g .keys .0) (g .facts .0)
@@ -204,7 +154,7 @@ fact-not g = go (g .give 0) (g .keys .0) (g .facts .0)
     go zero e t = t
     go (suc n) e t = omega arith
 
--- Without a true Q the second rule is broken.
+-- Without a true R the second rule is broken.
 pub false-breaks : Keeps (arranged (λ _. false)) book → ⊥
 unfolding if bodyTrue headTrue disjunctTrue isTrue eval originValue entries
 false-breaks k = k .1 .0 (0 ∷ []) refl (omega arith, tt) tt
@@ -247,14 +197,14 @@ split-held = pick (fired-held exchange book exchange-keeps limits unbounded seed
 
 -- ---- books that fail
 
--- [] gives P(a) or Q(a); each of the two is refuted.
-pub all-fail : ended (rule 0 [] (plain (P a ∷ []) ∷ plain (Q a ∷ []) ∷ []) ∷ rule 1 (P (var 0) ∷ []) [] ∷ rule 1 (Q (var 0) ∷ []) [] ∷ []) ≡ leaves 3 []
+-- [] gives P(a) or R(a); each of the two is refuted.
+pub all-fail : ended (rule 0 [] (plain (P a ∷ []) ∷ plain (R a ∷ []) ∷ []) ∷ rule 1 (P (var 0) ∷ []) [] ∷ rule 1 (R (var 0) ∷ []) [] ∷ []) ≡ leaves 3 []
 unfolding ended
 all-fail = refl
 
--- [] gives P(f(a)), Q(f(b)); P(x), Q(x) is refuted. That has a model, in which f(a) and f(b) are two elements.
+-- [] gives P(f(a)), R(f(b)); P(x), R(x) is refuted. That has a model, in which f(a) and f(b) are two elements.
 abbrev pub apart : List Sequent
-apart = rule 0 [] (plain (P (f a) ∷ Q (f b) ∷ []) ∷ []) ∷ rule 1 (P (var 0) ∷ Q (var 0) ∷ []) [] ∷ []
+apart = rule 0 [] (plain (P (f a) ∷ R (f b) ∷ []) ∷ []) ∷ rule 1 (P (var 0) ∷ R (var 0) ∷ []) [] ∷ []
 
 abbrev pub two : Model
 two = model 4 (a↦ 0 ∷ b↦ 2 ∷ f↦ 0 1 ∷ f↦ 2 3 ∷ []) (rel 0 (1 ∷ []) ∷ rel 1 (3 ∷ []) ∷ []) (0 ∷ 1 ∷ 0 ∷ 1 ∷ [])

@@ -17,15 +17,16 @@ use Rattle.rules.specs.Bound.{unbounded}
 use Rattle.rules.specs.Pool.{opened}
 use Rattle.rules.specs.Step.{run}
 use Rattle.rules.specs.Arrangement.{Arrangement, eval, isTrue, bodyTrue, disjunctTrue, headTrue, Keeps, KeepsRule, KeyHolds, FactHolds, Fits}
-use Rattle.fitting.specs.Real.{P, Q, a, f, plain, rule, model, f↦, isZero, ended}
+use Rattle.rules.specs.Cases.{a, f, P, R, plain, rule, model, f↦}
+use Rattle.fitting.specs.Real.{isZero, ended}
 
 -- ---- a rule that a number breaks which is no thing
 
--- P(x) gives Q(x).
+-- P(x) gives R(x).
 abbrev pub claims : Sequent
-claims = rule 1 (P (var 0) ∷ []) (plain (Q (var 0) ∷ []) ∷ [])
+claims = rule 1 (P (var 0) ∷ []) (plain (R (var 0) ∷ []) ∷ [])
 
--- 0 is the only thing. P is true of every number, Q of 0 alone.
+-- 0 is the only thing. P is true of every number, R of 0 alone.
 abbrev pub lone : Arrangement
 lone = record {
   thing = λ n. n ≡ 0;

@@ -6,22 +6,17 @@ use Prim.Native.Nat.{ℕ, _-_}
 use mathlib.Core.Bool.{Bool, true, false}
 use mathlib.Core.List.{List, [], _∷_, _++_, map}
 use lib.ListN.{length, set, take, replicate}
-use Rattle.base.specs.Branch.{if, caseO, caseL, three, order}
-use Rattle.base.specs.Lists.{mem, distinct, without, firsts, keep, firstOf, from, entries, flat, equal}
-use Rattle.rules.specs.Book.{var, con, app, nil, cons, terms, fact, same, Book, inTerm, inLiteral, appended, completedDisjunct, completed, rules}
+use Rattle.base.specs.Lists.{distinct, flat, equal}
+use Rattle.rules.specs.Book.{var, con, app, nil, cons, terms, fact, same, Book, rules}
 use Rattle.rules.specs.Reading.{Bytes, Read, got, caseRead, andThen, giving, many, num, number, ranged, declared, markByte, mark, version, namesAt, levels, termAt, literalAt, witnesses, witnessArity, originAt, disjunctAt, sequentAt, ended, readBook}
-use Rattle.rules.specs.Sheet.{Limits, limits, empty, blank, find, holds, insertKey, insertFact, domain, known}
-use Rattle.rules.specs.Look.{originMeaning, bodyMeanings, headMeanings, lookMeaning, look, observed}
-use Rattle.rules.specs.Fire.{choices, bodyObserved, disjunctObserved, headObserved, fires, numbered, firing, visits, places, placeAfter}
-use Rattle.rules.specs.Bound.{admits, depthOver, depthAt, depthMeaning, depth, termsOf, admitted}
-use Rattle.rules.specs.Merge.{rename, renameEntry, renameFact, insertEntry, inOrder, file, refile, refact, mergeDepths, mergeInto, mergeAll, lowerBy, sum, lower, lowered, merge}
-use Rattle.rules.specs.Child.{add, put, putMeaning, enter, tooBig, recorded, tell, tells, child}
-use Rattle.rules.specs.Pool.{schedulers, schedulerOf, strategies, strategyOf, numbers, sheetAt, sheetsAt, used, free, opened, changed, freed}
-use Rattle.rules.specs.Step.{placed, stored, openSlots, cutSlots, pushed, schedule, refuse, done, withPlaced, withoutBase, withChildren, stepOn, step, run, lists, listOf, taken}
+use Rattle.rules.specs.Sheet.{Limits, limits}
+use Rattle.rules.specs.Fire.{places}
+use Rattle.rules.specs.Pool.{schedulers, strategies, sheetsAt, opened}
+use Rattle.rules.specs.Step.{lists, listOf, taken}
 use Rattle.rules.specs.Image.{word, long, padded, entryBytes, keyBytes, factBytes, sheetHead, sheetBytes, poolMark, mostSlots, poolHead, poolBytes, headSize, sheetSize, slotsIn, part, argsIn, keyIn, factIn, parts, sheetIn, listIn, poolIn}
 use Rattle.rules.specs.Sound.{risingFrom, rising, hasArity, declaredAs, keyDeclared, factDeclared, least, depthRight, soundModel, soundSheet, isBlank, soundLists, soundNumbers, soundState, sound, soundLone}
 use Rattle.rules.specs.Calls.{rightLength, bounds, boundOf, knownBound, checked, soundly, Outcome, outcome, openCall, stepCall, RunOutcome, runCall, TakeOutcome, takeOutcome, takeCall}
-use Rattle.rules.specs.Cases.{some-of, rule, constant, function}
+use Rattle.rules.specs.Cases.{did, some-of, rule, constant, function}
 
 -- ---- what is asked, and what is answered
 
@@ -51,19 +46,14 @@ pub data Answered : Type 0 where
 abbrev pub small : Limits
 small = record { elements = 2; keys = 3; facts = 2 }
 
--- Its `unfolding` line names every function of a call.
+-- Its `unfolding` line names every function of a call, those of a run by `did`.
 unfoldable pub answered : Asked → Answered
-unfolding if caseO caseL three order mem distinct without firsts keep firstOf from entries flat equal terms inTerm inLiteral appended completedDisjunct completed rules
-    caseRead andThen giving many num number ranged declared markByte mark version namesAt levels termAt literalAt witnesses witnessArity originAt disjunctAt sequentAt ended readBook
-    limits empty blank find holds insertKey insertFact domain known originMeaning bodyMeanings headMeanings lookMeaning look observed
-    choices bodyObserved disjunctObserved headObserved fires numbered firing visits places placeAfter
-    admits depthOver depthAt depthMeaning depth termsOf admitted
-    rename renameEntry renameFact insertEntry inOrder file refile refact mergeDepths mergeInto mergeAll lowerBy sum lower lowered merge
-    add put putMeaning enter tooBig recorded tell tells child schedulers schedulerOf strategies strategyOf numbers sheetAt sheetsAt used free opened changed freed
-    placed stored openSlots cutSlots pushed schedule refuse done withPlaced withoutBase withChildren stepOn step run lists listOf taken
-    word long padded entryBytes keyBytes factBytes sheetHead sheetBytes poolMark mostSlots poolHead poolBytes headSize sheetSize slotsIn part argsIn keyIn factIn parts sheetIn listIn poolIn
-    risingFrom rising hasArity declaredAs keyDeclared factDeclared least depthRight soundModel soundSheet isBlank soundLists soundNumbers soundState sound soundLone
-    rightLength bounds boundOf knownBound checked soundly outcome openCall stepCall runCall takeOutcome takeCall
+unfolding did caseRead andThen giving many num number ranged declared markByte mark version namesAt levels termAt literalAt witnesses
+    witnessArity originAt disjunctAt sequentAt ended readBook distinct equal terms rules limits places schedulers strategies sheetsAt opened
+    word long padded entryBytes keyBytes factBytes sheetHead sheetBytes poolMark mostSlots poolHead poolBytes headSize sheetSize slotsIn
+    part argsIn keyIn factIn parts sheetIn listIn poolIn risingFrom rising hasArity declaredAs keyDeclared factDeclared least depthRight
+    soundModel soundSheet isBlank soundLists soundNumbers soundState sound soundLone
+    rightLength bounds boundOf knownBound checked soundly lists listOf taken outcome openCall stepCall runCall takeOutcome takeCall
 answered (reading s) = reads (readBook s)
 answered (checking s) = caseRead (readBook s) (λ n p. at n p) (λ b e. at 0 e)
 answered (pool b p) = right (sound small b p)
