@@ -348,6 +348,10 @@ abbrev pub arguments-as-survivors : Case
 arguments-as-survivors = freely (rule 2 (P x ∷ R y ∷ []) (some-of (function (1 ∷ []) ∷ []) (same x y ∷ S z ∷ []) ∷ [])) (a-and-b (isP 0 ∷ isR 1 ∷ []))
     (opens (model 3 (a↦ 0 ∷ b↦ 0 ∷ function↦ (0 ∷ []) 2 ∷ []) (isP 0 ∷ isR 0 ∷ isS 2 ∷ []) (0 ∷ 0 ∷ 1 ∷ [])))
 
+-- Every literal is told, however many.
+abbrev pub every-literal-told : Case
+every-literal-told = freely (always (P a ∷ R a ∷ S a ∷ N ∷ [])) nothing (opens (just-a (isP 0 ∷ isR 0 ∷ isS 0 ∷ isN ∷ [])))
+
 -- Terms are recorded from left to right: Q(b, a) makes b 0 and a 1; of f(a) = b the first side comes first.
 abbrev pub left-to-right : Case
 left-to-right = freely (always (Q b a ∷ [])) nothing (opens (model 2 (a↦ 1 ∷ b↦ 0 ∷ []) (isQ 0 1 ∷ []) (0 ∷ 0 ∷ [])))
@@ -399,7 +403,7 @@ existentials-behind-the-free = freely (rule 1 [] (some-of (constant 0 ∷ consta
     (opens (model 4 (a↦ 0 ∷ constant↦ 0 2 ∷ constant↦ 1 1 ∷ constant↦ 2 3 ∷ []) (isP 1 ∷ []) (0 ∷ 0 ∷ 0 ∷ 0 ∷ [])))
 
 abbrev pub recordings : List Case
-recordings = arguments-as-survivors ∷ left-to-right ∷ first-side-first ∷ new-depths ∷ after-a-skipped-literal ∷ bounded-for-good ∷ appended-behind
+recordings = arguments-as-survivors ∷ every-literal-told ∷ left-to-right ∷ first-side-first ∷ new-depths ∷ after-a-skipped-literal ∷ bounded-for-good ∷ appended-behind
     ∷ not-appended ∷ not-appended-for-inner ∷ not-appended-for-a-side ∷ appended-by-disjunct ∷ appended-by-variable ∷ existentials-behind-the-free ∷ []
 
 -- ---- the claim

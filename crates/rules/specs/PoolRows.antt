@@ -155,12 +155,17 @@ from-the-base's-slot = step-on (pool 0 0 2 (1 ∷ []) (0 ∷ []) [] (sheet 0 0 n
     (ran 0 1 (pool 0 0 4 (1 ∷ 2 ∷ []) (0 ∷ []) [] (sheet 0 0 nothing ∷ sheet 2 0 (just-a (isP 0 ∷ [])) ∷ sheet 3 0 (just-a (isR 0 ∷ [])) ∷ [])))
 
 abbrev pub from-the-lowest-slot : Case
-from-the-lowest-slot = step-on (pool 0 0 2 (2 ∷ []) [] (1 ∷ []) (unused ∷ sheet 1 0 (just-a []) ∷ unused ∷ [])) (either ∷ [])
-    (ran 0 1 (pool 0 0 4 (0 ∷ 2 ∷ []) [] (1 ∷ []) (sheet 2 0 (just-a (isP 0 ∷ [])) ∷ sheet 1 0 (just-a []) ∷ sheet 3 0 (just-a (isR 0 ∷ [])) ∷ [])))
+from-the-lowest-slot = step-on (pool 0 0 2 (2 ∷ []) [] (1 ∷ []) (unused ∷ sheet 0 0 (just-a []) ∷ sheet 1 0 nothing ∷ [])) (either ∷ [])
+    (ran 0 1 (pool 0 0 4 (0 ∷ 2 ∷ []) [] (1 ∷ []) (sheet 2 0 (just-a (isP 0 ∷ [])) ∷ sheet 0 0 (just-a []) ∷ sheet 3 0 (just-a (isR 0 ∷ [])) ∷ [])))
+
+-- A child for each disjunct, however many.
+abbrev pub a-child-for-each : Case
+a-child-for-each = step-on (three-slots 1 (0 ∷ []) [] [] []) (rule 0 [] (plain (P a ∷ []) ∷ plain (R a ∷ []) ∷ plain (S a ∷ []) ∷ []) ∷ [])
+    (ran 0 1 (three-slots 4 (0 ∷ 1 ∷ 2 ∷ []) [] [] (sheet 1 0 (just-a (isP 0 ∷ [])) ∷ sheet 2 0 (just-a (isR 0 ∷ [])) ∷ sheet 3 0 (just-a (isS 0 ∷ [])) ∷ [])))
 
 abbrev pub listings : List Case
 listings = fifo-behind-the-waiting ∷ lifo-before-the-waiting ∷ a-failed-base-is-gone ∷ complete-at-the-back ∷ bounded-at-the-back ∷ numbers-by-disjunct
-    ∷ bounded-in-order ∷ from-the-base's-slot ∷ from-the-lowest-slot ∷ []
+    ∷ bounded-in-order ∷ from-the-base's-slot ∷ from-the-lowest-slot ∷ a-child-for-each ∷ []
 
 -- ---- runs
 
