@@ -1,5 +1,6 @@
--- A run is a chain of steps: it answers (stop, k) and leaves t exactly when t comes from the pool by k unrefused steps, k is within
--- the budget, and either the budget is spent and stop is 0, or it is not and the next step from t is refused with stop.
+-- Where the pool is sound for the book and the bound is known, a run is a chain of steps: it answers (stop, k) and leaves t exactly
+-- when t comes from the pool by k unrefused steps, k is within the budget, and either the budget is spent and stop is 0, or it is not
+-- and the next step from t is refused with stop.
 use mathlib.Core.Path.{_≡_, refl, sym, ap, _∙_, subst}
 use Prim.Native.Nat.{ℕ, zero, suc, _-_, _≤_, _<_}
 use native.Mathlib.Nat.{le-refl}

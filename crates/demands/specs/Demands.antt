@@ -37,9 +37,9 @@ demand-1 book pool = record {
   taking = λ l o. (take-has book pool l o, take-refused book pool l o);
 }
 
--- 2. Each promise fixes its outcome: any two outcomes that have it are equal. And a run is a chain of steps: it answers (stop, k) and
--- leaves t exactly when t comes from the pool by k unrefused steps, k is within the budget, and the budget is spent and stop is 0, or
--- it is not and the next step from t is refused with stop.
+-- 2. Each promise fixes its outcome: any two outcomes that have it are equal. And where the pool is sound for the book and the bound is
+-- known, a run is a chain of steps: it answers (stop, k) and leaves t exactly when t comes from the pool by k unrefused steps, k is
+-- within the budget, and the budget is spent and stop is 0, or it is not and the next step from t is refused with stop.
 pub record Demand2 (book pool : Bytes) : Type 0 where
   pub opening : (sc st a a′ : ℕ) (p p′ : Bytes) → OpenPromise book pool sc st a p → OpenPromise book pool sc st a′ p′ → (a ≡ a′) × (p ≡ p′)
   pub stepping : (bound number a a′ : ℕ) (p p′ : Bytes) → StepPromise book pool bound number a p → StepPromise book pool bound number a′ p′ → (a ≡ a′) × (p ≡ p′)

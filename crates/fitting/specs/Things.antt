@@ -1,6 +1,6 @@
 -- What things are for: arrangements that keep a rule, or do not fit a sheet, only because some numbers are no things; and one with
--- infinitely many things, which keeps a book that only such arrangements keep. No run bears on the second: each element of a sound
--- sheet has a name, and what a name is given is a thing (demands.Named). So its sheet is not a sound one.
+-- infinitely many things, which keeps a book that only such arrangements keep. No run can show the sheet that does not fit, `circle`:
+-- each element of a sound sheet has a name, and what a name is given is a thing (demands.Named), so `circle` is not sound.
 use mathlib.Core.Path.{_≡_, refl, sym, ap}
 use Prim.Native.Nat.{ℕ, zero, suc, _<_}
 use native.Mathlib.Omega.{arith}

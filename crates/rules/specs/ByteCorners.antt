@@ -402,8 +402,8 @@ named-sheet = but ((8, 0) ∷ (1042, 0) ∷ []) stepped-sheet
 abbrev cut-pool : Bytes
 cut-pool = but ((8, 2) ∷ (12, 0) ∷ (14, 1) ∷ (208, 1) ∷ []) fresh
 
--- A pool of two slots in which nothing waits, the next number 2, slot 0 with the empty model 0 and slot 1 with that sheet, where these
--- lists, complete and bounded, name them.
+-- A pool of two slots in which nothing waits, the next number 2, with these lists, complete and bounded, and these slots: in `stocked`
+-- slot 0 has the empty model 0 and slot 1 that sheet, in `emptied` both are zero.
 abbrev two-slots : List ℕ → List ℕ → Bytes → Bytes
 two-slots cs bs slots = 77 ∷ 68 ∷ 76 ∷ 1 ∷ 0 ∷ 0 ∷ 0 ∷ 0 ∷ 2 ∷ 0 ∷ 0 ∷ 0 ∷ 0 ∷ length cs ∷ length bs ∷ 0 ∷ replicate 64 0
     ++ (cs ++ (replicate (64 - length cs) 0 ++ (bs ++ (replicate (64 - length bs) 0 ++ slots))))

@@ -8,7 +8,7 @@ use Rattle.rules.specs.Book.{Sequent, fact, same, cons, nil}
 use Rattle.rules.specs.Sheet.{Model, rel}
 use Rattle.rules.specs.Bound.{domainSize, depthPure, depthReuse}
 use Rattle.rules.specs.Cases.{Case, did, a, b, f, g, h, k, x, y, z, P, R, S, Q, N, constant, function, some-of, plain, exists, rule, always, either, model, a↦, b↦, c↦, f↦, g↦, h↦, k↦, constant↦, function↦, isP, isR, isS, isQ, isN, nothing, just-a, a-and-b, a-is-b, sheet, unused, pool, three-slots, ran, step-on, under, freely, completes, fails, opens, bounds}
-use Rattle.rules.specs.PoolRows.{limitations, listings, runs}
+use Rattle.rules.specs.PoolRows.{limitations, lists-and-slots, runs}
 
 -- ---- the P corners of document 01, in its order and its words
 
@@ -264,11 +264,11 @@ abbrev pub depths-fall : Case
 depths-fall = freely (always (same (f a) b ∷ [])) (model 3 (a↦ 0 ∷ f↦ 0 1 ∷ f↦ 1 2 ∷ []) [] (0 ∷ 1 ∷ 2 ∷ []))
     (opens (model 4 (a↦ 0 ∷ b↦ 1 ∷ f↦ 0 1 ∷ f↦ 1 2 ∷ []) [] (0 ∷ 0 ∷ 1 ∷ 0 ∷ [])))
 
--- Until none falls: a->0, g(0)->4, f(4)->3, f(3)->2, f(2)->1, g(a) = b: each key of f stands before the one that it waits for, so two passes
--- are not enough.
+-- Until none falls: a->0, g(0)->5, f(5)->4, f(4)->3, f(3)->2, f(2)->1, g(a) = b: each key of f stands before the one that it waits for,
+-- so three passes are not enough.
 abbrev pub depths-fall-again : Case
-depths-fall-again = freely (always (same (g a) b ∷ [])) (model 5 (a↦ 0 ∷ f↦ 2 1 ∷ f↦ 3 2 ∷ f↦ 4 3 ∷ g↦ 0 4 ∷ []) [] (0 ∷ 4 ∷ 3 ∷ 2 ∷ 1 ∷ []))
-    (opens (model 6 (a↦ 0 ∷ b↦ 4 ∷ f↦ 2 1 ∷ f↦ 3 2 ∷ f↦ 4 3 ∷ g↦ 0 4 ∷ []) [] (0 ∷ 3 ∷ 2 ∷ 1 ∷ 0 ∷ 0 ∷ [])))
+depths-fall-again = freely (always (same (g a) b ∷ [])) (model 6 (a↦ 0 ∷ f↦ 2 1 ∷ f↦ 3 2 ∷ f↦ 4 3 ∷ f↦ 5 4 ∷ g↦ 0 5 ∷ []) [] (0 ∷ 5 ∷ 4 ∷ 3 ∷ 2 ∷ 1 ∷ []))
+    (opens (model 7 (a↦ 0 ∷ b↦ 5 ∷ f↦ 2 1 ∷ f↦ 3 2 ∷ f↦ 4 3 ∷ f↦ 5 4 ∷ g↦ 0 5 ∷ []) [] (0 ∷ 4 ∷ 3 ∷ 2 ∷ 1 ∷ 0 ∷ 0 ∷ [])))
 
 -- Through the keys of witnesses, too: f(a) = b with witness 0 at f(a).
 abbrev pub depths-fall-through-witnesses : Case
@@ -409,7 +409,7 @@ recordings = arguments-as-survivors ∷ every-literal-told ∷ left-to-right ∷
 -- ---- the claim
 
 abbrev pub table : List Case
-table = flat (documents ∷ firings ∷ boundings ∷ mergings ∷ recordings ∷ limitations ∷ listings ∷ runs ∷ [])
+table = flat (documents ∷ firings ∷ boundings ∷ mergings ∷ recordings ∷ limitations ∷ lists-and-slots ∷ runs ∷ [])
 
 pub corners : map did table ≡ map (λ (k : Case). k .after) table
 unfolding did flat

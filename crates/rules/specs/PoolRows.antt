@@ -36,7 +36,10 @@ an-identity-needs-keys = within (room 2 1 0) unbounded (always (same a b ∷ [])
 abbrev pub merged-away-takes-room : Case
 merged-away-takes-room = within (room 2 9 9) unbounded (always (P (f a) ∷ [])) (a-is-b []) (refuses 15 (a-is-b []))
 
--- A fact that is held needs none, nor does a key: of x = y, R(y) the second is R(0) again.
+-- A key that is held needs no room, nor does a fact: a is there, and of x = y, R(y) the second is R(0) again.
+abbrev pub held-key-needs-no-room : Case
+held-key-needs-no-room = within (room 1 1 1) unbounded (always (P a ∷ [])) (just-a []) (opens (just-a (isP 0 ∷ [])))
+
 abbrev pub held-needs-no-room : Case
 held-needs-no-room = within (room 2 2 2) unbounded (rule 2 (R x ∷ S y ∷ []) (plain (same x y ∷ R y ∷ []) ∷ [])) (a-and-b (isR 0 ∷ isS 1 ∷ []))
     (opens (a-is-b (isR 0 ∷ isS 0 ∷ [])))
@@ -76,7 +79,8 @@ no-slot-among-those-in-use = step-on all-in-use (either ∷ []) (ran 16 0 all-in
 abbrev pub fifteen-before-sixteen : Case
 fifteen-before-sixteen = case (room 0 1 1) 1 unbounded (either ∷ []) (one-slot 1) (ran 15 0 (one-slot 1))
 
--- 65,535 is given out and then numbers are used up; two children are then 17, where there is a slot for both, and else 16.
+-- Where 65,535 is the next number one child gets it, and numbers are then used up. Two children are 17 there, if there is a slot for
+-- both, and else 16.
 abbrev pub the-last-number : Case
 the-last-number = step-on (one-slot 65535) (always (P a ∷ []) ∷ []) (ran 0 1 (pool 0 0 65536 (0 ∷ []) [] [] (sheet 65535 0 (just-a (isP 0 ∷ [])) ∷ [])))
 
@@ -102,7 +106,7 @@ no-number-needed-to-fail = step-on (one-slot 65536) (rule 0 [] [] ∷ []) (ran 0
 
 abbrev pub limitations : List Case
 limitations = just-room ∷ an-element-too-many ∷ a-key-too-many ∷ a-fact-too-many ∷ an-identity-needs-room ∷ an-identity-needs-keys
-    ∷ merged-away-takes-room ∷ held-needs-no-room ∷ at-any-moment ∷ a-bounded-child-too-big ∷ the-first-child-too-big ∷ the-last-child-too-big ∷ the-base-leaves-its-slot ∷ no-slot-for-two
+    ∷ merged-away-takes-room ∷ held-key-needs-no-room ∷ held-needs-no-room ∷ at-any-moment ∷ a-bounded-child-too-big ∷ the-first-child-too-big ∷ the-last-child-too-big ∷ the-base-leaves-its-slot ∷ no-slot-for-two
     ∷ no-slot-among-those-in-use ∷ fifteen-before-sixteen ∷ the-last-number ∷ no-number-for-two ∷ sixteen-before-seventeen ∷ no-slot-for-two-bounded ∷ no-number-for-a-bounded
     ∷ no-number-needed ∷ no-number-needed-to-fail ∷ []
 
@@ -163,8 +167,8 @@ abbrev pub a-child-for-each : Case
 a-child-for-each = step-on (three-slots 1 (0 ∷ []) [] [] []) (rule 0 [] (plain (P a ∷ []) ∷ plain (R a ∷ []) ∷ plain (S a ∷ []) ∷ []) ∷ [])
     (ran 0 1 (three-slots 4 (0 ∷ 1 ∷ 2 ∷ []) [] [] (sheet 1 0 (just-a (isP 0 ∷ [])) ∷ sheet 2 0 (just-a (isR 0 ∷ [])) ∷ sheet 3 0 (just-a (isS 0 ∷ [])) ∷ [])))
 
-abbrev pub listings : List Case
-listings = fifo-behind-the-waiting ∷ lifo-before-the-waiting ∷ a-failed-base-is-gone ∷ complete-at-the-back ∷ bounded-at-the-back ∷ numbers-by-disjunct
+abbrev pub lists-and-slots : List Case
+lists-and-slots = fifo-behind-the-waiting ∷ lifo-before-the-waiting ∷ a-failed-base-is-gone ∷ complete-at-the-back ∷ bounded-at-the-back ∷ numbers-by-disjunct
     ∷ bounded-in-order ∷ from-the-base's-slot ∷ from-the-lowest-slot ∷ a-child-for-each ∷ []
 
 -- ---- runs
