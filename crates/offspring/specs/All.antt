@@ -31,7 +31,7 @@ use Rattle.texts.specs.Names.{names_in}
 use Rattle.texts.specs.Text.{DisjunctText}
 use Rattle.texts.specs.Parts.{disjuncts_grow}
 use Rattle.skips.specs.Rest.{Skips}
-use Rattle.deriving.specs.Derived.{Parent, DisjunctsHere}
+use Rattle.children.specs.Derived.{Parent, DisjunctsHere}
 use Rattle.lists.specs.Moves.{Imaged, Room, scheduled_none}
 use Rattle.adopting.specs.Slots.{Fitting}
 use Rattle.offspring.specs.One.{PlacedOne}

@@ -12,7 +12,7 @@ use Rattle.rules.specs.Bound.{Bound}
 use Rattle.rules.specs.Child.{child}
 use Rattle.rules.specs.Step.{with_placed}
 use Rattle.child.specs.Whole.{Made}
-use Rattle.deriving.specs.Derived.{Parent, DisjunctHere, IsDerived}
+use Rattle.children.specs.Derived.{Parent, DisjunctHere, IsDerived}
 use Rattle.placing.specs.OneByOne.{the_child}
 use Rattle.lists.specs.Header.{LowestFree, lowest_first, lowest_gone}
 use Rattle.lists.specs.Moves.{Imaged, shows_free}

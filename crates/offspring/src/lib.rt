@@ -9,7 +9,7 @@ ghost use Rattle.offspring.specs.One.{PlacedOne};
 ghost use Rattle.offspring.specs.All.{PlacedAll};
 
 use adopting::place_child;
-use deriving::derive;
+use children::derive;
 use lists::lowest_free;
 use skips::skip_disjunct;
 

@@ -35,7 +35,7 @@ use Rattle.texts.specs.Names.{names_in, count_at}
 use Rattle.texts.specs.Parts.{sequent_grows}
 use Rattle.firing.specs.Answers.{Elements}
 use Rattle.evaluate.specs.Answers.{FiresAt}
-use Rattle.deriving.specs.Derived.{Parent, DisjunctsHere, AnyOver}
+use Rattle.children.specs.Derived.{Parent, DisjunctsHere, AnyOver}
 use Rattle.adopting.specs.Slots.{Freed}
 use Rattle.offspring.specs.All.{Good, kids_of}
 use Rattle.stepping.specs.Standing.{L, Standing, Went, ground, few, shows, small, strategy_is, count_is, Based, inside, neat, model_sound, carries}

@@ -25,7 +25,7 @@ use Rattle.evaluate.specs.declared.Fired.{Fired}
 use Rattle.evaluate.specs.declared.Fired.TheVariants.{Nothing, At}
 use Rattle.evaluate.specs.Answers.{Answers}
 use Rattle.evalforms.specs.Basis.{Evaluated}
-use Rattle.deriving.specs.Derived.{AnyOver}
+use Rattle.children.specs.Derived.{AnyOver}
 use Rattle.lists.specs.Moves.{Finished}
 use Rattle.adopting.specs.Slots.{Freed}
 use Rattle.stepping.specs.Standing.{L, Standing, Stepped, few, shows, small, short, strategy_is, none_waits, first_waits, Based, based, slot_fits, neat, sturdy}

@@ -13,7 +13,7 @@ use Rattle.images.specs.Pools.{pool_length}
 use Rattle.pools.specs.Tidy.{places_of, Tidy}
 use Rattle.pools.specs.Moves.{kept_tidy}
 use Rattle.pools.specs.Steps.{first_listed, base_kept, base_size}
-use Rattle.deriving.specs.Derived.{Parent, DisjunctsHere}
+use Rattle.children.specs.Derived.{Parent, DisjunctsHere}
 use Rattle.adopting.specs.Slots.{Freed}
 use Rattle.offspring.specs.All.{Ground, tidy_shows, Good, kids_of, PlacedAll}
 use Rattle.stepping.specs.Standing.{L}

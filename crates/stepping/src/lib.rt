@@ -13,7 +13,7 @@ ghost use Rattle.stepping.specs.Branch.{HasFired, Branched};
 
 use adopting::free_base;
 use counts::sequent_count;
-use deriving::any_over;
+use children::any_over;
 use evalforms::evaluate_form;
 use evaluate::Fired;
 use lists::finish;

@@ -11,7 +11,7 @@ use Rattle.offspring.proofs.place_one.Tie as tie
 use Rattle.offspring.proofs.place_one.Reads as reads
 use Rattle.offspring.proofs.place_one.Lts as lts
 use Rattle.adopting.proofs.place_child.Reads as place-child-reads
-use Rattle.deriving.proofs.derive.Reads as derive-reads
+use Rattle.children.proofs.derive.Reads as derive-reads
 use Rattle.lists.proofs.lowest_free.Reads as lowest-free-reads
 
 derive-requires : tie.Need-derive-requires

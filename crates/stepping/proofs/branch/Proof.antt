@@ -12,7 +12,7 @@ use Rattle.stepping.proofs.branch.Reads as reads
 use Rattle.stepping.proofs.branch.Lts as lts
 use Rattle.adopting.proofs.free_base.Reads as free-base-reads
 use Rattle.counts.proofs.sequent_count.Reads as sequent-count-reads
-use Rattle.deriving.proofs.any_over.Reads as any-over-reads
+use Rattle.children.proofs.any_over.Reads as any-over-reads
 use Rattle.octets.proofs.byte.Reads as byte-Reads
 use Rattle.stepping.proofs.head_at.Reads as head-at-reads
 use Rattle.stepping.proofs.next_place.Reads as next-place-reads

@@ -7,9 +7,9 @@ use lib.ListN.{length, take}
 use Rattle.base.specs.Lists.{All}
 use Rattle.rules.specs.Calls.{bound_of}
 use Rattle.sheets.specs.Form.{limits_of}
-use Rattle.deriving.specs.Ways.{derive_env, OverLeft, over_start, over_stop, over_next, over_end}
-use Rattle.deriving.proofs.any_over.Statement.{statement}
-use Rattle.deriving.proofs.any_over.Tie as tie
+use Rattle.children.specs.Ways.{derive_env, OverLeft, over_start, over_stop, over_next, over_end}
+use Rattle.children.proofs.any_over.Statement.{statement}
+use Rattle.children.proofs.any_over.Tie as tie
 
 abbrev invariant-loop : tie.invariant-loop
 invariant-loop book at n v kind number env₀ base w₀ le lk lf dom₀ p₀ i₀ env w dom p i =

@@ -6,9 +6,9 @@ use mathlib.Core.Bool.{true, false}
 use Rattle.rules.specs.Calls.{bound_of}
 use Rattle.sheets.specs.Form.{limits_of}
 use Rattle.enter.specs.Grow.{Sturdy}
-use Rattle.deriving.specs.Ways.{derive_short, derive_wide, derive_is}
-use Rattle.deriving.proofs.derive.Statement.{statement}
-use Rattle.deriving.proofs.derive.Tie as tie
+use Rattle.children.specs.Ways.{derive_short, derive_wide, derive_is}
+use Rattle.children.proofs.derive.Statement.{statement}
+use Rattle.children.proofs.derive.Tie as tie
 
 copy-form-requires : tie.Need-copy-form-requires
 copy-form-requires c κs = search rules

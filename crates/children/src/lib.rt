@@ -1,11 +1,11 @@
-// deriving: the children of a sequent that fired, one at a time. A child is made in a scratch form over a copy of the form that
+// children: the children of a sequent that fired, one at a time. A child is made in a scratch form over a copy of the form that
 // holds the base; the environment has the chosen elements in front, and gets the keys of the disjunct's origins behind them.
 ghost use Rattle.std.specs.Prelude.{◌≡◌, ◌+◌, ◌≤◌, ◌<◌, length, take};
 ghost use Rattle.rules.specs.Calls.{bound_of};
 ghost use Rattle.sheets.specs.Form.{limits_of};
 ghost use Rattle.enter.specs.Grow.{Sturdy};
 ghost use Rattle.firing.specs.Answers.{Elements};
-ghost use Rattle.deriving.specs.Derived.{IsDerived, AnyOver};
+ghost use Rattle.children.specs.Derived.{IsDerived, AnyOver};
 
 use child::child;
 use firing::make_env;

@@ -20,7 +20,7 @@ use Rattle.skips.specs.Rest.{Skips}
 use Rattle.firing.specs.Answers.{Elements, OriginsAt, MadeEnv}
 use Rattle.firing.specs.Means.{head_means, few_args}
 use Rattle.child.specs.Whole.{Base, Made, IsChild}
-use Rattle.deriving.specs.Derived.{Parent, DisjunctHere, IsDerived, DisjunctsHere, AnyOver}
+use Rattle.children.specs.Derived.{Parent, DisjunctHere, IsDerived, DisjunctsHere, AnyOver}
 
 -- ---- one child
 

@@ -4,9 +4,9 @@ use Prim.Native.Nat.{◌≤◌, ◌-◌}
 use mathlib.Core.Path.{◌≡◌}
 use native.Mathlib.Omega.{arith}
 use lib.ListN.{length, length-set}
-use Rattle.deriving.specs.Copy.{copied, copy_none, copy_more, copy_all}
-use Rattle.deriving.proofs.copy_form.Statement.{statement}
-use Rattle.deriving.proofs.copy_form.Tie as tie
+use Rattle.children.specs.Copy.{copied, copy_none, copy_more, copy_all}
+use Rattle.children.proofs.copy_form.Statement.{statement}
+use Rattle.children.proofs.copy_form.Tie as tie
 
 abbrev invariant-loop : tie.invariant-loop
 invariant-loop base w₀ i₀ w i = (i ≤ length base) × ((length w ≡ length base) × (w ≡ copied base i w₀))
