@@ -1,5 +1,7 @@
 // adopting: what a step writes into a pool's slots and lists. The base's slot is freed, all zero, and no list names it any more; a
 // child is stored in a slot, which joins the waiting or the bounded ones.
+#![tactic(auto)]
+
 ghost use Rattle.std.specs.Prelude.{◌+◌, ◌*◌, ◌≤◌, length};
 ghost use Rattle.sheets.specs.Form.{limits_of, Formed};
 ghost use Rattle.adopting.specs.Slots.{Freed, Adopted};

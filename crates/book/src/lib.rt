@@ -1,5 +1,7 @@
 // book: the check of a rule book, refusals 1 to 10, equal to the reading of the definitions on every input.
 // Each function follows one definition of rules (Reading); numbers are read by `numbers`, terms by `terms`.
+#![tactic(auto)]
+
 ghost use Rattle.std.specs.Prelude.{◌≡◌, ◌≤◌};
 ghost use Rattle.rules.specs.Reading.{many, mark, names_at, literal_at, origin_at, disjunct_at, sequent_at, read_book};
 ghost use Rattle.texts.specs.Names.{names_in};

@@ -1,5 +1,7 @@
 // bound: the bound on a literal's unknown terms. Its own terms are asked for, left to right, each by the size of the domain and the
 // count of unknown ones before it, and by its depth; terms inside them only lend their depths.
+#![tactic(auto)]
+
 ghost use Rattle.std.specs.Prelude.{◌≡◌, ◌+◌, ◌≤◌, ◌<◌, length, take};
 ghost use Rattle.rules.specs.Bound.{admits};
 ghost use Rattle.rules.specs.Calls.{bound_of};

@@ -1,5 +1,7 @@
 // calls: the public calls as a host in C sees them, on numbers and byte buffers. Each contract is the call's promise and nothing
 // else, and no call asks anything of its inputs.
+#![tactic(auto)]
+
 ghost use Rattle.rules.specs.Calls.{OpenPromise, StepPromise, RunPromise, TakePromise};
 
 use running::Ran;

@@ -1,7 +1,11 @@
 // checkbooks: checks many books. Standard input holds, for each, its length in four bytes, low byte first, and its bytes;
 // for each a line says where it ends, or its refusal and the place of the fault.
-use libc::STDOUT_FILENO;
+#![tactic(auto)]
+
 use numbers::Checked;
+
+// The descriptor of standard output.
+const STDOUT_FILENO: i32 = 1;
 
 fn say(word: &[u8], x: u64) {
     io::write_all(STDOUT_FILENO, word);

@@ -1,5 +1,7 @@
 // child: a child from a disjunct, made in the working form that holds the base: its literals are told in order, and then "v = v" for
 // each existential that no literal has.
+#![tactic(auto)]
+
 ghost use Rattle.std.specs.Prelude.{false, ◌+◌, ◌≤◌, ◌<◌, length, take};
 ghost use Rattle.rules.specs.Calls.{bound_of};
 ghost use Rattle.look.specs.Answers.{IsVariable};

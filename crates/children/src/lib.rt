@@ -1,5 +1,7 @@
 // children: the children of a sequent that fired, one at a time. A child is made in a scratch form over a copy of the form that
 // holds the base; the environment has the chosen elements in front, and gets the keys of the disjunct's origins behind them.
+#![tactic(auto)]
+
 ghost use Rattle.std.specs.Prelude.{◌≡◌, ◌+◌, ◌≤◌, ◌<◌, length, take};
 ghost use Rattle.rules.specs.Calls.{bound_of};
 ghost use Rattle.sheets.specs.Form.{limits_of};

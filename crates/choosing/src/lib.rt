@@ -1,5 +1,7 @@
 // choosing: choices of elements for free variables, as indices into the domain, the first variable fastest. Counting on from
 // the indices 0, 0, .. visits the choices of the definition, each once and in its order.
+#![tactic(auto)]
+
 ghost use Rattle.std.specs.Prelude.{◌≡◌, ◌≤◌, ◌<◌, length, take};
 ghost use Rattle.choosing.specs.Choosing.{chosen, after, perhaps, Below};
 

@@ -1,1 +1,2 @@
 // congruence: what merging makes of a sheet, without the order of pairs. It has no code: see specs/.
+#![tactic(auto)]

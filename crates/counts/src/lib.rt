@@ -1,5 +1,7 @@
 // counts: what the head of a book names, read at its place: five counts, the arities, the sequent count.
 // Total: the answers are those of `names_in`, which are the names of the book if it is accepted (texts, `accepted`).
+#![tactic(auto)]
+
 ghost use Rattle.std.specs.Prelude.{◌≡◌, ◌<◌, length, get_or};
 ghost use Rattle.rules.specs.Reading.{num, witnesses, witness_arity};
 ghost use Rattle.texts.specs.Names.{names_in, relations_at, witnesses_at, count_at, sequents_at};

@@ -1,1 +1,2 @@
 // demands: the demands as theorems over the definitions. It has no code: see specs/.
+#![tactic(auto)]

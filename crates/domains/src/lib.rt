@@ -1,5 +1,7 @@
 // domains: the elements of a sheet, in order of first appearance, and whether an element is one of them.
 // An element is found through the listed domain: one that was merged away is in no list.
+#![tactic(auto)]
+
 ghost use Rattle.std.specs.Prelude.{◌≡◌, map, ◌≤◌, length, take};
 ghost use Rattle.base.specs.Lists.{mem, firsts};
 ghost use Rattle.packing.specs.Replace.{value_of};

@@ -1,5 +1,7 @@
 // enter: recording on the working form of a sheet, arguments first: a key's element, a variable's, a term's.
 // A new element's number is the created count; where there is no room for it the answer says so and nothing more is written.
+#![tactic(auto)]
+
 ghost use Rattle.std.specs.Prelude.{◌≡◌, ◌+◌, ◌*◌, ◌%◌, ◌≤◌, ◌<◌, max, length, get_or, take};
 ghost use Rattle.look.specs.Digits.{Roomy};
 ghost use Rattle.sheets.specs.Form.{limits_of, view_of, Formed};

@@ -1,5 +1,7 @@
 // evalforms: what fires on a sheet that stands in its working form. The domain is listed, and the evaluator is lent the regions of
 // keys and facts as parts of the form: nothing is copied.
+#![tactic(auto)]
+
 ghost use Rattle.std.specs.Prelude.{◌≤◌, length};
 ghost use Rattle.sheets.specs.Form.{limits_of};
 ghost use Rattle.evalforms.specs.Basis.{Basis, Evaluated};

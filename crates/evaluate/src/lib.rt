@@ -1,5 +1,7 @@
 // evaluate: the first sequent in the order of a strategy, and the first choice, that fires. Each sequent is handed to the search for
 // a choice as the part of the book that holds it. Linear starts at the first sequent; Fair starts at the sheet's place and wraps.
+#![tactic(auto)]
+
 ghost use Rattle.std.specs.Prelude.{◌+◌, ◌≤◌, ◌<◌, length, take};
 ghost use Rattle.rules.specs.Reading.{num};
 ghost use Rattle.texts.specs.Names.{count_at};

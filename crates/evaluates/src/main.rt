@@ -9,6 +9,8 @@
 // The line of a record says what fires on the lone sheet: the number of the sequent and the choice of elements; or that nothing does;
 // or why the record was refused. The last line says how many records there were. A record that ends early or does not fit ends the
 // program with a line that says so.
+#![tactic(auto)]
+
 ghost use Rattle.std.specs.Prelude.{◌≡◌, ◌+◌, ◌≤◌, ◌<◌, length};
 ghost use Rattle.texts.specs.Heads.{ReadAs};
 ghost use Rattle.evaluates.specs.Lone.{Lone, FiresOn};
@@ -16,11 +18,13 @@ ghost use Rattle.evaluates.specs.Lone.{Lone, FiresOn};
 use book::check_book;
 use evalforms::evaluate_form;
 use evaluate::Fired;
-use libc::STDOUT_FILENO;
 use numbers::Checked;
 use sheetcheck::lone_sound;
 use sheets::limits::{ELEMENTS, FACTS, FORM, KEYS, SLOT};
 use sheets::load_sheet;
+
+// The descriptor of standard output.
+const STDOUT_FILENO: i32 = 1;
 
 fn say(word: &[u8], x: u64) {
     io::write_all(STDOUT_FILENO, word);

@@ -1,6 +1,8 @@
 // Tables that are in order filed anew, in place: each entry is put behind those before it. A table is the first n entries of a
 // slice; of two entries that became one key the pair of values goes onto a stack that grows down from the slice's end. Pairs,
 // and lone elements, are renamed as entries are.
+#![tactic(auto)]
+
 ghost use Rattle.std.specs.Prelude.{◌≡◌, ◌+◌, ◌≤◌, ◌<◌, length, take};
 ghost use Rattle.packing.specs.Replace.{key_of, replaced};
 ghost use Rattle.tables.specs.Table.{Rising};

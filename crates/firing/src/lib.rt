@@ -1,6 +1,8 @@
 // firing: whether a sequent fires at a choice of elements, and the first choice at which it does. The sequent is given as its
 // text, the part of the book that holds it. An environment of at least eight numbers is lent: the chosen elements stand first in
 // it, then the witness keys of a disjunct's existentials. A choice is rejected at its first body literal that is not observed.
+#![tactic(auto)]
+
 ghost use Rattle.std.specs.Prelude.{◌≡◌, ◌+◌, ◌≤◌, ◌<◌, length, take};
 ghost use Rattle.look.specs.Answers.{Ready, FactsReady};
 ghost use Rattle.skips.specs.Rest.{Within};

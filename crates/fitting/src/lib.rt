@@ -1,1 +1,2 @@
 // fitting: what fits the base fits a child. It has no code: see specs/.
+#![tactic(auto)]

@@ -1,6 +1,8 @@
 // heads: what calls write into a pool beside sheets: the lists of slots in its header, changed in place, and slots given back. List 0
 // has the waiting slots, list 1 the complete ones, list 2 the bounded ones; list j is counted by byte 12 + j, and stands in the 64 bytes
 // from 16 + 64 * j on. Of a list that is empty or full where it should not be, nothing is promised but that the call is safe.
+#![tactic(auto)]
+
 ghost use Rattle.std.specs.Prelude.{◌≡◌, ◌+◌, ◌*◌, ◌≤◌, ◌<◌, length, replicate};
 ghost use Rattle.octets.specs.Patch.{patched};
 ghost use Rattle.heads.specs.Shift.{moved_down, moved_up};

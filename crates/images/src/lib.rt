@@ -1,1 +1,2 @@
 // images: an image read back is its state. It has no code: see specs/.
+#![tactic(auto)]

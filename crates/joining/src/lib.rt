@@ -1,6 +1,8 @@
 // Two elements become one in each table of a sheet: l, which goes, is renamed to s, which survives, and the table is put in order
 // again and filed anew. Keys stand in front of a slice that has the pairs waiting to be merged at its end; of two keys that
 // become equal one stays, and their values are one more pair.
+#![tactic(auto)]
+
 ghost use Rattle.std.specs.Prelude.{◌≡◌, ◌+◌, ◌≤◌, ◌<◌, min, length, get_or, take, set};
 ghost use Rattle.rules.specs.Image.{part};
 ghost use Rattle.rules.specs.Merge.{merge_depths};

@@ -1,5 +1,7 @@
 // lines: the listing's lines, written into a buffer from a place on; each answers the place behind what it wrote. What a line
 // says is defined in specs/Text.antt. Entries of a sheet are read in place, eight bytes each (docs/FORMAT.md).
+#![tactic(auto)]
+
 ghost use Rattle.std.specs.Prelude.{◌∷◌, [], ◌+◌, ◌*◌, ◌≤◌, ◌<◌, length, take, drop};
 ghost use Rattle.rules.specs.Image.{args_in, key_in, fact_in};
 ghost use Rattle.lines.specs.Text.{decimal, fields, key_line, fact_line, depth_text, refusal};

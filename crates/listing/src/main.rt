@@ -1,7 +1,11 @@
 // listing: the listing program. Standard input holds 8 bytes of settings and a book, and the listing goes to standard output; what is
 // printed, of every input, is what crate printing says.
-use libc::STDOUT_FILENO;
+#![tactic(auto)]
+
 use printing::text;
+
+// The descriptor of standard output.
+const STDOUT_FILENO: i32 = 1;
 
 // One byte more than the settings and the longest book tells a book that is too long. Twelve sheets, the first line and the last
 // take at most 101,661 bytes.

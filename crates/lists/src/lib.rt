@@ -1,5 +1,7 @@
 // lists: the three lists of slots in a pool's header, changed as a step changes them: the first waiting slot leaves, to be complete
 // or to be given up; a child's slot joins, open or bounded. And the lowest slot that no list names.
+#![tactic(auto)]
+
 ghost use Rattle.std.specs.Prelude.{◌≡◌, ◌+◌, ◌≤◌, ◌<◌, min, length, get_or};
 ghost use Rattle.base.specs.Lists.{mem};
 ghost use Rattle.rules.specs.Image.{list_in};

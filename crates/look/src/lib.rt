@@ -1,6 +1,8 @@
 // look: the element of the term that stands at a place of a text, over the tables of a sheet, and whether a literal is observed.
 // The text is the part of the book that holds a sequent; arities come from the book's head. Nothing is copied: the tables are
 // read where they are, keys and facts by halving, an element through the listed domain.
+#![tactic(auto)]
+
 ghost use Rattle.std.specs.Prelude.{◌≡◌, ◌+◌, ◌*◌, ◌/◌, ◌≤◌, ◌<◌, length, take};
 ghost use Rattle.rules.specs.Reading.{num};
 ghost use Rattle.look.specs.Digits.{start, Roomy};

@@ -1,5 +1,7 @@
 // Depths lowered through keys until none falls, in one slice that has packed keys before the depths: k keys from place a on, and
 // n depths from place d on. An element that has no depth there has depth 0.
+#![tactic(auto)]
+
 ghost use Rattle.std.specs.Prelude.{◌≡◌, ◌+◌, ◌≤◌, ◌<◌, max, length, get_or};
 ghost use Rattle.rules.specs.Image.{part};
 ghost use Rattle.lowering.specs.Lower.{arg_depth, deepest, lowest};

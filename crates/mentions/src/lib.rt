@@ -1,4 +1,6 @@
 // mentions: is a variable in a literal, or in one of several that follow one another? A loop over the nodes of their text.
+#![tactic(auto)]
+
 ghost use Rattle.std.specs.Prelude.{◌≡◌, ◌+◌, ◌-◌, ◌*◌, ◌/◌, ◌≤◌, ◌<◌, length};
 ghost use Rattle.texts.specs.Names.{names_in};
 ghost use Rattle.mentions.specs.Nodes.{node_is, nodes_have, Mentions};

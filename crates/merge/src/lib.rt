@@ -1,5 +1,7 @@
 // Two elements of a sheet made one in its working form: the smaller survives in keys, facts and history, with the smaller depth;
 // keys that become equal give pairs to be merged in turn; in the end depths are lowered until none falls.
+#![tactic(auto)]
+
 ghost use Rattle.std.specs.Prelude.{map, ◌+◌, ◌≤◌, ◌<◌, length, get_or};
 ghost use Rattle.rules.specs.Merge.{merge_depths};
 ghost use Rattle.packing.specs.Replace.{replaced};

@@ -7,6 +7,8 @@
 // `read_declared` and `read_version`, and through these `check_ranges` and `check_variables`; in `terms` and `book` the kinds and the
 // argument counts. The mark is read byte by byte (`read_mark`), and what the check has let through is read again, without refusals, by
 // `words::num16`.
+#![tactic(auto)]
+
 ghost use Rattle.std.specs.Prelude.{◌≡◌};
 ghost use Rattle.rules.specs.Reading.{many, number, ranged, declared, mark_byte, version};
 ghost use Rattle.numbers.specs.Answers.{checked, value, ValueIn};

@@ -1,5 +1,7 @@
 // Numbers in bytes, read and written: 16-bit numbers low byte first, entries of eight bytes highest byte first, and tables of
 // entries and of single bytes. What a table leaves of its room is written with zeros.
+#![tactic(auto)]
+
 ghost use Rattle.std.specs.Prelude.{◌≡◌, ◌++◌, map, ◌+◌, ◌*◌, ◌≤◌, ◌<◌, length, get_or, take, drop};
 ghost use Rattle.base.specs.Lists.{flat};
 ghost use Rattle.rules.specs.Reading.{num};

@@ -1,5 +1,7 @@
 // offspring: the children of a sequent that fired are stored. Each is made over a copy of the base and goes into the lowest slot
 // that is free then.
+#![tactic(auto)]
+
 ghost use Rattle.std.specs.Prelude.{◌≡◌, ◌+◌, ◌*◌, ◌≤◌, ◌<◌, length, take};
 ghost use Rattle.rules.specs.Calls.{bound_of};
 ghost use Rattle.sheets.specs.Form.{limits_of};

@@ -1,5 +1,7 @@
 // openings: the call open. The book's check gives 1 to 10, then come the pool's length and the settings; open replaces the whole pool
 // with one waiting, empty model 0.
+#![tactic(auto)]
+
 ghost use Rattle.std.specs.Prelude.{◌≡◌, ◌≤◌, ◌<◌, length, T};
 ghost use Rattle.rules.specs.Sheet.{limits};
 ghost use Rattle.rules.specs.Pool.{opened};

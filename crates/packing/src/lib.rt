@@ -1,5 +1,7 @@
 // Keys and facts as one number of eight digits to base 256, highest first: kind, symbol, number of arguments, four
 // arguments, value. A fact has kind 0 and value 0. The number / 256 is the key.
+#![tactic(auto)]
+
 ghost use Rattle.std.specs.Prelude.{◌≡◌, ◌<◌};
 ghost use Rattle.rules.specs.Merge.{rename};
 ghost use Rattle.packing.specs.Replace.{count_of, arg_of, value_of, replaced};

@@ -1,5 +1,7 @@
 // pages: a sheet's lines off its slot, and the whole listing off a pool, written into a buffer. Slots are read in place
 // (docs/FORMAT.md). Readers are total, so any bytes are taken: what is written is the text of what the bytes say.
+#![tactic(auto)]
+
 ghost use Rattle.std.specs.Prelude.{◌≡◌, ◌+◌, ◌*◌, ◌≤◌, ◌<◌, min, length, get_or, take, drop};
 ghost use Rattle.base.specs.Lists.{mem};
 ghost use Rattle.rules.specs.Reading.{num};

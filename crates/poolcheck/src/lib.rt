@@ -1,5 +1,7 @@
 // poolcheck: is a pool sound for a book (refusal 13)? The tests of poolparts one after the other, on any bytes of an accepted length,
 // proved to say what the definition says for every accepted book.
+#![tactic(auto)]
+
 ghost use Rattle.std.specs.Prelude.{length, T};
 ghost use Rattle.rules.specs.Calls.{right_length};
 ghost use Rattle.poolcheck.specs.Books.{PoolSound};

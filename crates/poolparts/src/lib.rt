@@ -1,5 +1,7 @@
 // poolparts: the clauses of a pool's soundness as tests on its bytes: mark and settings, lists, slots, numbers. Readers are total;
 // what a sheet says is tested by sheetcheck.
+#![tactic(auto)]
+
 ghost use Rattle.std.specs.Prelude.{◌≡◌, ◌+◌, ◌*◌, ◌≤◌, ◌<◌, length};
 ghost use Rattle.rules.specs.Reading.{num};
 ghost use Rattle.rules.specs.Fire.{places};

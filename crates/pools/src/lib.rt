@@ -1,1 +1,2 @@
 // pools: every call makes a sound pool of a sound one. It has no code: see specs/.
+#![tactic(auto)]

@@ -1,6 +1,8 @@
 // printing: what the listing program prints of an input: 8 bytes of settings (scheduler, strategy, bound, 0, then the bound's number,
 // low byte first) and a book. A pool of 12 slots is opened and run with a budget of 1,000. The text of every input is defined in lines,
 // specs/Printed.antt.
+#![tactic(auto)]
+
 ghost use Rattle.std.specs.Prelude.{◌≡◌, ◌+◌, ◌*◌, ◌≤◌, length};
 ghost use Rattle.rules.specs.Sheet.{limits};
 ghost use Rattle.rules.specs.Image.{pool_in};

@@ -1,6 +1,8 @@
 // One element renamed in a table of packed entries that is in order, so that it is in order again: at one place after another,
 // the entries that change are set apart, which keep their order among themselves, and brought back among those that stay.
 // A place costs two moves for each entry at most. The table is n entries of a slice from a on; n entries from b on are spare.
+#![tactic(auto)]
+
 ghost use Rattle.std.specs.Prelude.{◌≡◌, ◌+◌, ◌-◌, ◌≤◌, ◌<◌, length};
 ghost use Rattle.rules.specs.Image.{part};
 ghost use Rattle.packing.specs.Replace.{replaced};

@@ -14,10 +14,14 @@
 //
 // The line of a record is the call's name, its answer (of a run its stop and its steps) and the sums, in hex digits: of the book, of the pool, of a take's output. The last
 // line says how many records were replayed. A record that has no arm, ends early or does not fit ends the replay with a line that says so.
+#![tactic(auto)]
+
 ghost use Rattle.std.specs.Prelude.{◌<◌};
 
-use libc::STDOUT_FILENO;
 use words::num32;
+
+// The descriptor of standard output.
+const STDOUT_FILENO: i32 = 1;
 
 fn say(word: &[u8], x: u64) {
     io::write_all(STDOUT_FILENO, word);

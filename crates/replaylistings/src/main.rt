@@ -1,10 +1,14 @@
 // replaylistings: lists recorded inputs of the listing program. Standard input holds, for each, its length in four bytes, low byte
 // first, and its bytes: settings and a book. For each the program prints what crate printing says, and a line `--` behind it. The last
 // line says how many were listed; an input that ends early or does not fit ends the program with a line that says so.
+#![tactic(auto)]
+
 ghost use Rattle.std.specs.Prelude.{◌≡◌, ◌≤◌, ◌<◌, length};
 
-use libc::STDOUT_FILENO;
 use printing::text;
+
+// The descriptor of standard output.
+const STDOUT_FILENO: i32 = 1;
 
 // What came of an input.
 #[derive(Drop)]

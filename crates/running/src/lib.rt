@@ -1,5 +1,7 @@
 // running: the calls step and run. Each checks 1 to 13 once: the book, the pool's length, the bound, the pool's soundness. A run then
 // steps until its budget is spent or a step refuses; what a step leaves is sound again, so nothing is checked twice.
+#![tactic(auto)]
+
 ghost use Rattle.std.specs.Prelude.{◌≡◌, ◌≤◌, length};
 ghost use Rattle.rules.specs.Calls.{known_bound, StepPromise, RunPromise};
 ghost use Rattle.texts.specs.Heads.{ReadAs};

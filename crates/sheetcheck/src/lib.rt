@@ -1,5 +1,7 @@
 // sheetcheck: is a slot a sound sheet for a book's names, and is a lone sheet sound for a book? The tests of sheetparts one after the
 // other, proved to say what the definitions say: the bytes are the image of what they say, and that is sound.
+#![tactic(auto)]
+
 ghost use Rattle.std.specs.Prelude.{◌≡◌, length};
 ghost use Rattle.rules.specs.Image.{sheet_size};
 ghost use Rattle.texts.specs.Names.{names_in};

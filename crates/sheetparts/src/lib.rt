@@ -1,5 +1,7 @@
 // sheetparts: the clauses of a lone sheet's soundness as tests on its bytes: counts within limits, unused room zero, declared
 // symbols with their arities, rising entries, known arguments, depths. Readers are total, so any bytes are taken.
+#![tactic(auto)]
+
 ghost use Rattle.std.specs.Prelude.{◌≡◌, ◌+◌, ◌*◌, ◌≤◌, ◌<◌, length};
 ghost use Rattle.rules.specs.Reading.{num};
 ghost use Rattle.rules.specs.Sound.{has_arity, declared_as};

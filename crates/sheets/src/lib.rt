@@ -1,5 +1,7 @@
 // The working form of a sheet: one slice of numbers with five counts in front (model number, place, elements created, keys,
 // facts), then keys, room for pairs, facts, depths, and what each element is now. Loaded from a slot's bytes, and stored.
+#![tactic(auto)]
+
 pub mod limits;
 
 ghost use Rattle.std.specs.Prelude.{◌≡◌, ◌∷◌, [], ◌++◌, ◌+◌, ◌*◌, ◌≤◌, ◌<◌, min, length, take, drop};

@@ -1,5 +1,7 @@
 // skips: the place behind what stands at a place of a text: terms, literals, origins, disjuncts, sequents. Each answer is within
 // the text whatever it holds, and the end of the thing if one stands there. Every walk is a loop.
+#![tactic(auto)]
+
 ghost use Rattle.std.specs.Prelude.{◌≡◌, ◌+◌, ◌≤◌, ◌<◌, length};
 ghost use Rattle.texts.specs.Names.{names_in};
 ghost use Rattle.texts.specs.Text.{LiteralText, OriginText, DisjunctText, SequentText};

@@ -1,4 +1,6 @@
 // A slot's bytes from the working form of a sheet, in the slot and in the pool that the slot stands in, and back.
+#![tactic(auto)]
+
 ghost use Rattle.std.specs.Prelude.{◌≡◌, ◌+◌, ◌*◌, ◌≤◌, length};
 ghost use Rattle.rules.specs.Image.{part};
 ghost use Rattle.octets.specs.Patch.{patched};

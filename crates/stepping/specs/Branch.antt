@@ -151,7 +151,7 @@ module _ (text p : Bytes) (z : Standing text p) (i q a : ℕ) (base env : List �
       kids = kids_of bd L (num text a) (take (num text a) env) m sq.head
 
       -- The definition's children are those.
-      kids_are : pools.kidsOf L bd s i fired ≡ kids
+      kids_are : pools.kids_of L bd s i fired ≡ kids
       unfolding completed
       kids_are = ap (λ v. kids_of bd L v (take v env) m sq.head) (sym free_is)
 

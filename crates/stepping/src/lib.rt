@@ -1,6 +1,8 @@
 // stepping: one step on a sound pool. The first waiting sheet is loaded and evaluated. Where nothing fires it is complete; where a
 // sequent without a head fires it is given up; else its children are made: once to ask for 15, then, if 16 and 17 do not hold, once
 // more to be stored. All refusals come before the first byte is written.
+#![tactic(auto)]
+
 ghost use Rattle.std.specs.Prelude.{◌≡◌, ◌+◌, ◌*◌, ◌≤◌, ◌<◌, length};
 ghost use Rattle.rules.specs.Calls.{bound_of};
 ghost use Rattle.sheets.specs.Form.{form_size};
@@ -12,8 +14,8 @@ ghost use Rattle.stepping.specs.Settling.{Settled};
 ghost use Rattle.stepping.specs.Branch.{HasFired, Branched};
 
 use adopting::free_base;
-use counts::sequent_count;
 use children::any_over;
+use counts::sequent_count;
 use evalforms::evaluate_form;
 use evaluate::Fired;
 use lists::finish;

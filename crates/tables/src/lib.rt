@@ -1,5 +1,7 @@
 // Sorted tables of packed entries: the first n of a slice of numbers, in the order of their keys, which are the numbers / 256.
 // A key's value is the number % 256. A table of facts is one whose values are 0.
+#![tactic(auto)]
+
 ghost use Rattle.std.specs.Prelude.{◌≡◌, ◌++◌, ◌+◌, ◌≤◌, ◌<◌, length, take, drop};
 ghost use Rattle.tables.specs.Table.{rank, look_in, or_none, is_some, Rising, insert_at};
 ghost use Rattle.packing.specs.Replace.{key_of};

@@ -1,5 +1,7 @@
 // takings: the call take. The book's check gives 1 to 10, then come 11, 12, the pool's soundness (13), 18 and 19; take copies the first
 // sheet of a list, frees its slot and leaves later output bytes untouched.
+#![tactic(auto)]
+
 ghost use Rattle.std.specs.Prelude.{◌≡◌, ◌+◌, ◌*◌, ◌≤◌, ◌<◌, length, replicate};
 ghost use Rattle.octets.specs.Patch.{patched};
 ghost use Rattle.rules.specs.Calls.{TakePromise};

@@ -1,5 +1,7 @@
 // telling: a literal told to a child in the working form of a sheet. It is skipped if the bound refuses one of its unknown terms, left
 // as it is if it is observed, and recorded otherwise: its terms first, then the fact, or the merge of the two sides.
+#![tactic(auto)]
+
 ghost use Rattle.std.specs.Prelude.{◌≡◌, ◌+◌, ◌≤◌, ◌<◌, length, take};
 ghost use Rattle.rules.specs.Calls.{bound_of};
 ghost use Rattle.rules.specs.Reading.{num};

@@ -1,5 +1,7 @@
 // terms: the check of a term. It calls itself for each argument, with the levels that are left as the falling number;
 // what does not recurse is in `term_head`, which answers what stands first: a leaf, an application and its arguments, or a fault.
+#![tactic(auto)]
+
 ghost use Rattle.std.specs.Prelude.{◌≡◌, suc};
 ghost use Rattle.rules.specs.Reading.{many, term_at, levels};
 ghost use Rattle.texts.specs.Names.{names_in};

@@ -1,4 +1,6 @@
 // words: bytes and numbers of 16 and of 32 bits of a text, low byte first. Every reader is total: what is past the end reads as 0.
+#![tactic(auto)]
+
 ghost use Rattle.std.specs.Prelude.{◌≡◌, ◌+◌, ◌-◌, ◌*◌, ◌<◌, ◌≤◌, length, get_or};
 ghost use Rattle.rules.specs.Reading.{num};
 

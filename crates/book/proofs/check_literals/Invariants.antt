@@ -1,0 +1,16 @@
+-- What is left to read gives the answer of all.
+use Rattle.rules.specs.Reading.{many, literal_at}
+use Rattle.numbers.specs.Loops.{left, left_all, left_next, left_refused, left_end}
+use Rattle.numbers.specs.Answers.{checked}
+use Prim.Native.Nat.{◌≤◌, ◌-◌}
+use Rattle.texts.specs.Names.{names_in}
+use borrow.Author.Rules.{rules}
+use native.Mathlib.Omega.{arith}
+use mathlib.Core.Path.{◌≡◌, sym, ◌∙◌}
+use Rattle.book.proofs.check_literals.Given as goal
+
+abbrev pub invariant-loop-i : goal.invariant-loop-i
+invariant-loop-i l = (l.i ≤ l.count) × (checked (many l.count (literal_at (names_in l.book) l.v l.book) l.at) ≡ left l.count (literal_at (names_in l.book) l.v l.book) l.i l.p)
+
+abbrev pub decreases-loop-i : goal.decreases-loop-i
+decreases-loop-i l = l.count - l.i

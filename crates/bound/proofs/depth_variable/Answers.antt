@@ -1,0 +1,15 @@
+use native.Mathlib.Omega.{arith}
+use Rattle.sheets.specs.Form.{limits_of}
+use lib.ListN.{take, length-take}
+use lib.Seq.{get_or-take}
+use Rattle.bound.specs.Ways.{variable_past, variable_meant}
+use borrow.Author.Rules.{rules}
+use Rattle.bound.proofs.depth_variable.Goals as goal
+
+pub returns-then-at-ne : goal.returns-then-at-ne
+returns-then-at-ne c =
+    (omega arith, variable_past (limits_of c.args.le c.args.lk c.args.lf) (take c.args.ne c.args.env.now) c.args.i c.args.w.now (simp length-take (omega arith)))
+
+pub returns : goal.returns
+returns c =
+    (c.depth_meaning.ensures.bound, variable_meant (limits_of c.args.le c.args.lk c.args.lf) (take c.args.ne c.args.env.now) c.args.i c.args.w.now _ _ (get_or-take c.args.ne c.args.env.now c.args.i 0 (omega arith)) c.depth_meaning.ensures)

@@ -1,0 +1,18 @@
+use native.Mathlib.Omega.{arith}
+use mathlib.Core.Path.{◌≡◌, refl}
+use Rattle.sheets.specs.Form.{limits_of}
+use borrow.Author.Rules.{rules}
+use Prim.Native.Nat.{◌-◌, ◌≤◌}
+use mathlib.Core.Bool.{false}
+use lib.ListN.{length, take}
+use Rattle.rules.specs.Calls.{bound_of}
+use Rattle.enter.specs.Grow.{Sturdy}
+use Rattle.child.specs.Tells.{Left, left_start, left_end, left_over, left_next}
+use Rattle.child.proofs.tells.Given as goal
+
+abbrev pub invariant-loop-i : goal.invariant-loop-i
+invariant-loop-i l = (l.i ≤ l.n) × ((l.p ≤ length l.text) × ((length l.w ≡ length l.initial.w) × ((length l.dom ≡ length l.initial.dom)
+    × (Sturdy (limits_of l.le l.lk l.lf) l.w × Left l.book l.text l.at l.n (bound_of l.kind l.number) (limits_of l.le l.lk l.lf) (take l.ne l.env) false l.initial.w l.i l.p l.cut l.w))))
+
+abbrev pub decreases-loop-i : goal.decreases-loop-i
+decreases-loop-i l = l.n - l.i

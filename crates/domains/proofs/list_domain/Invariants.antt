@@ -1,0 +1,14 @@
+-- The numbers listed so far are the first appearances among the values passed.
+use native.Mathlib.Omega.{arith}
+use borrow.Author.Rules.{rules}
+use Prim.Native.Nat.{◌≤◌, ◌-◌}
+use mathlib.Core.Path.{◌≡◌, refl, sym, ◌∙◌}
+use lib.ListN.{length, length-set}
+use Rattle.domains.specs.Firsts.{Listed, listed_none, listed_old, listed_new}
+use Rattle.domains.proofs.list_domain.Given as goal
+
+abbrev pub invariant-loop-i : goal.invariant-loop-i
+invariant-loop-i l = (l.i ≤ l.nk) × ((l.nd ≤ l.i) × ((length l.dom ≡ length l.initial.dom) × Listed l.keys l.i l.dom l.nd))
+
+abbrev pub decreases-loop-i : goal.decreases-loop-i
+decreases-loop-i l = l.nk - l.i

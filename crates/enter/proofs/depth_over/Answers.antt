@@ -1,0 +1,11 @@
+use mathlib.Core.Path.{ap₂, ◌∙◌}
+use Prim.Native.Nat.{max}
+use Rattle.enter.specs.Args.{depth_of}
+use borrow.Author.Rules.{rules}
+use Rattle.enter.proofs.depth_over.Goals as goal
+
+pub returns : goal.returns
+unfolding depth_of
+returns c =
+    c.larger-3.ensures ∙ ap₂ max c.above_argument-a.ensures (c.larger-2.ensures
+    ∙ ap₂ max c.above_argument-b.ensures (c.larger.ensures ∙ ap₂ max c.above_argument-c.ensures c.above_argument-d.ensures))

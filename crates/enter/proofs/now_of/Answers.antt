@@ -1,0 +1,17 @@
+use native.Mathlib.Omega.{arith}
+use mathlib.Core.Path.{sym, ap}
+use Prim.Native.Nat.{◌+◌, ◌%◌}
+use Rattle.sheets.specs.Form.{view_of}
+use Rattle.images.specs.Kept.{part_at, part_out}
+use borrow.Author.Rules.{rules}
+use Rattle.enter.proofs.now_of.Goals as goal
+
+pub returns-then-e-le : goal.returns-then-e-le
+unfolding view_of
+returns-then-e-le c =
+    (ap (λ n. n % 256) (part_out (6 + c.args.lk + c.args.lk + c.args.lf + c.args.le) _ c.args.w.now c.args.e c.if-e-le.true), omega arith)
+
+pub returns : goal.returns
+unfolding view_of
+returns c =
+    (ap (λ n. n % 256) (sym (part_at (6 + c.args.lk + c.args.lk + c.args.lf + c.args.le) _ c.args.w.now c.args.e (omega arith))), omega arith)

@@ -1,0 +1,12 @@
+-- The buffers keep their lengths from record to record.
+use borrow.Author.Rules.{rules}
+use Prim.Native.Nat.{◌-◌}
+use mathlib.Core.Path.{◌≡◌}
+use lib.ListN.{length}
+use Rattle.evaluates.proofs.all.Given as goal
+
+abbrev pub invariant-loop-done : goal.invariant-loop-done
+invariant-loop-done l = (length l.book ≡ length l.initial.book) × (length l.slot ≡ length l.initial.slot)
+
+abbrev pub decreases-loop-done : goal.decreases-loop-done
+decreases-loop-done l = 1000000 - l.done

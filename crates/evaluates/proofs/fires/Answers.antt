@@ -1,0 +1,13 @@
+-- The checked sheet, loaded, is a basis for the evaluator, whose answer is for the sheet that the bytes say.
+use native.Mathlib.Omega.{arith}
+use Rattle.evaluates.specs.Lone.{basis, fires_on}
+use borrow.Author.Rules.{rules}
+use Rattle.evaluates.proofs.fires.Goals as goal
+
+pub evaluate_form-requires : goal.evaluate_form-requires
+evaluate_form-requires c =
+    (basis c.args.book.now c.args.slot.now c.requires.0 _ c.load_sheet.ensures, (c.requires.1.1, omega arith))
+
+pub returns : goal.returns
+returns c =
+    fires_on c.args.book.now c.args.slot.now c.requires.0 _ c.load_sheet.ensures c.args.strategy c.evaluate_form.result c.evaluate_form.new.env c.evaluate_form.ensures

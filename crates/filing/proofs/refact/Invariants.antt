@@ -1,0 +1,11 @@
+use Prim.Native.Nat.{◌-◌}
+use native.Mathlib.Omega.{arith}
+use borrow.Author.Rules.{rules}
+use Rattle.filing.specs.File.{Refacting, refacting_start, refacting_none, refacting_next, refacting_end}
+use Rattle.filing.proofs.refact.Given as goal
+
+abbrev pub invariant-loop-i : goal.invariant-loop-i
+invariant-loop-i l = Refacting l.initial.t l.n l.t l.count l.i
+
+abbrev pub decreases-loop-i : goal.decreases-loop-i
+decreases-loop-i l = l.n - l.i

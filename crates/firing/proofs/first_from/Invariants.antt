@@ -1,0 +1,20 @@
+-- The choices from the indices on have the answer of all, and grow fewer.
+use Rattle.firing.specs.Search.{chosen_small, Searching, search_start, step_found, step_next, step_none, choices_fall, zeros_below, zeros_four}
+use lib.Seq.{length-take-le}
+use borrow.Author.Tests.{not-true, not-false}
+use native.Mathlib.Omega.{arith}
+use borrow.Author.Rules.{rules}
+use Prim.Native.Nat.{◌<◌, ◌-◌}
+use mathlib.Core.Path.{◌≡◌, refl, sym, ◌∙◌, subst}
+use lib.ListN.{length, take}
+use Rattle.base.specs.Lists.{All}
+use Rattle.choosing.specs.Choosing.{Below, chosen, onward}
+use Rattle.firing.proofs.first_from.Given as goal
+
+abbrev pub invariant-loop-idx : goal.invariant-loop-idx
+invariant-loop-idx l =
+    (length l.env ≡ length l.initial.env) × ((length l.idx ≡ 4) × (Below l.nd (take l.v l.idx) × ((take l.v l.env ≡ chosen (take l.nd l.dom) (take l.v l.idx))
+    × Searching l.book l.text l.at l.v (take l.nk l.keys) (take l.nf l.facts) (take l.nd l.dom) (take l.v l.idx))))
+
+abbrev pub decreases-loop-idx : goal.decreases-loop-idx
+decreases-loop-idx l = length (onward l.v (take l.nd l.dom) (take l.v l.idx))

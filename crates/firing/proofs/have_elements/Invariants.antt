@@ -1,0 +1,13 @@
+-- The variables still to come have the answer of all.
+use native.Mathlib.Omega.{arith}
+use borrow.Author.Rules.{rules}
+use Prim.Native.Nat.{◌≤◌, ◌-◌}
+use lib.ListN.{take}
+use Rattle.firing.specs.Loops.{ElementsLeft, elements_start, elements_next, elements_stop, elements_end}
+use Rattle.firing.proofs.have_elements.Given as goal
+
+abbrev pub invariant-loop-i : goal.invariant-loop-i
+invariant-loop-i l = (l.i ≤ l.k) × ElementsLeft l.v l.k (take l.ne l.env) (take l.nk l.keys) (take l.nd l.dom) l.i
+
+abbrev pub decreases-loop-i : goal.decreases-loop-i
+decreases-loop-i l = l.k - l.i

@@ -1,0 +1,16 @@
+-- The disjuncts still to come have the answer of all; the chosen elements stay.
+use native.Mathlib.Omega.{arith}
+use borrow.Author.Rules.{rules}
+use Prim.Native.Nat.{◌≤◌, ◌<◌, ◌-◌}
+use mathlib.Core.Path.{◌≡◌, refl, sym, ◌∙◌, subst}
+use lib.ListN.{length, take}
+use Rattle.base.specs.Lists.{All}
+use Rattle.firing.specs.Loops.{HeadLeft, disjunct_env, head_start, head_stop, head_next, head_end}
+use Rattle.firing.proofs.head_observed.Given as goal
+
+abbrev pub invariant-loop-i : goal.invariant-loop-i
+invariant-loop-i l =
+    (l.i ≤ l.n) × ((l.p ≤ length l.text) × ((length l.env ≡ length l.initial.env) × ((take l.v l.env ≡ take l.v l.initial.env) × HeadLeft l.book l.text l.at l.n l.initial.env l.v (take l.nk l.keys) (take l.nf l.facts) (take l.nd l.dom) l.i l.p)))
+
+abbrev pub decreases-loop-i : goal.decreases-loop-i
+decreases-loop-i l = l.n - l.i

@@ -1,0 +1,18 @@
+-- The environment so far and the origins still to come are the whole.
+use native.Mathlib.Omega.{arith}
+use borrow.Author.Rules.{rules}
+use Prim.Native.Nat.{◌≤◌, ◌<◌, ◌-◌, ◌+◌}
+use mathlib.Core.Path.{◌≡◌, refl, sym, ◌∙◌, subst}
+use lib.ListN.{length, take, length-set}
+use lib.Seq.{length-take-le, take-set-le}
+use Rattle.base.specs.Lists.{All}
+use Rattle.skips.specs.Rest.{Within}
+use Rattle.firing.specs.Answers.{IsOriginKey}
+use Rattle.firing.specs.Origins.{Makes, makes_start, makes_next, makes_end}
+use Rattle.firing.proofs.make_env.Given as goal
+
+abbrev pub invariant-loop-i : goal.invariant-loop-i
+invariant-loop-i l = (l.i ≤ l.k) × (Within l.at (length l.text) l.p × ((length l.env ≡ length l.initial.env) × ((take l.v l.env ≡ take l.v l.initial.env) × Makes l.book l.text l.at l.k l.v (take l.v l.initial.env) l.i l.p l.env)))
+
+abbrev pub decreases-loop-i : goal.decreases-loop-i
+decreases-loop-i l = l.k - l.i

@@ -1,0 +1,15 @@
+-- Entries above i are moved.
+use Prim.Native.Nat.{◌≤◌, ◌-◌, ◌+◌}
+use mathlib.Core.Path.{◌≡◌, refl, sym}
+use native.Mathlib.Omega.{arith}
+use borrow.Author.Rules.{rules}
+use lib.ListN.{length, length-set}
+use Rattle.tables.specs.Shift.{opened, opened_none, opened_more, opened_set}
+use Rattle.heads.specs.Shift.{moved_up}
+use Rattle.heads.proofs.move_up.Given as goal
+
+abbrev pub invariant-loop-i : goal.invariant-loop-i
+invariant-loop-i l = (l.at ≤ l.i) × ((l.i ≤ l.at + 63) × ((length l.pool ≡ length l.initial.pool) × (l.pool ≡ opened l.initial.pool l.i (l.at + 63))))
+
+abbrev pub decreases-loop-i : goal.decreases-loop-i
+decreases-loop-i l = l.i

@@ -1,0 +1,17 @@
+-- The rest of the list has the same answer as the whole.
+use native.Mathlib.Omega.{arith}
+use borrow.Author.Rules.{rules}
+use Prim.Native.Nat.{◌+◌, ◌≤◌, ◌-◌}
+use mathlib.Core.Path.{◌≡◌, sym, ap, ◌∙◌}
+use lib.ListN.{get_or, take, drop, length-drop}
+use lib.Seq.{get_or-drop}
+use Rattle.base.specs.Lists.{mem}
+use Rattle.domains.specs.Front.{mem_here, mem_on, mem_end}
+use Rattle.lists.specs.Header.{list_front}
+use Rattle.lists.proofs.in_list.Given as goal
+
+abbrev pub invariant-loop-j : goal.invariant-loop-j
+invariant-loop-j l = (l.j ≤ l.n) × (mem l.i (take l.n (drop l.at l.p)) ≡ mem l.i (drop l.j (take l.n (drop l.at l.p))))
+
+abbrev pub decreases-loop-j : goal.decreases-loop-j
+decreases-loop-j l = l.n - l.j

@@ -1,0 +1,15 @@
+-- A pass that lowers leaves less to fall; one that does not has come to rest.
+use Prim.Native.Nat.{◌<◌}
+use mathlib.Core.Bool.{true, false}
+use Rattle.rules.specs.Image.{part}
+use lib.ListN.{length}
+use Rattle.lowering.specs.Rest.{Passing, left, passing_start, passing_next, passing_less, passing_end}
+use native.Mathlib.Omega.{arith}
+use mathlib.Core.Path.{◌≡◌, sym, subst}
+use Rattle.lowering.proofs.lower.Given as goal
+
+abbrev pub invariant-loop-fell : goal.invariant-loop-fell
+invariant-loop-fell l = Passing l.a l.k l.d l.n l.initial.w l.w l.fell
+
+abbrev pub decreases-loop-fell : goal.decreases-loop-fell
+decreases-loop-fell l = left l.fell (part l.d l.n l.w)

@@ -1,0 +1,13 @@
+-- The pairs that are left give what all would; keys and pairs together become fewer.
+use borrow.Author.Rules.{rules}
+use Rattle.merge.specs.Next.{Merging, remaining, merging_start, merging_next, merging_less, merging_end}
+use Rattle.sheets.specs.Form.{limits_of}
+use native.Mathlib.Omega.{arith}
+use mathlib.Core.Path.{sym, ◌∙◌}
+use Rattle.merge.proofs.merge_all.Given as goal
+
+abbrev pub invariant-loop-top : goal.invariant-loop-top
+invariant-loop-top l = Merging (limits_of l.le l.lk l.lf) l.start l.initial.w l.top l.w
+
+abbrev pub decreases-loop-top : goal.decreases-loop-top
+decreases-loop-top l = remaining (limits_of l.le l.lk l.lf) l.top l.w

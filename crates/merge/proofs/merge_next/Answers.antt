@@ -1,0 +1,28 @@
+-- The three ways out: one already, the first is the smaller, the second is.
+use Rattle.merge.specs.Next.{next_same, next_into}
+use Rattle.sheets.specs.Form.{limits_of}
+use native.Mathlib.Omega.{arith}
+use borrow.Author.Rules.{rules}
+use Rattle.merge.proofs.merge_next.Goals as goal
+
+pub returns-then-x-y : goal.returns-then-x-y
+returns-then-x-y c =
+    next_same (limits_of c.args.le c.args.lk c.args.lf) c.args.top c.args.w.now c.requires.0 c.requires.1 c.if-x-y.true
+
+pub merge_into-requires : goal.merge_into-requires
+merge_into-requires c =
+    let g = c.requires.0 in
+    (g.formed, (g.orderly, (omega (arith, g.room), (omega arith, (omega arith, omega arith)))))
+
+pub returns-then-x-y-2 : goal.returns-then-x-y-2
+returns-then-x-y-2 c =
+    next_into (limits_of c.args.le c.args.lk c.args.lf) c.args.top c.args.w.now c.requires.0 c.requires.1 _ _ _ _ c.if-x-y.false (omega arith) (omega arith) c.merge_into.ensures
+
+pub merge_into-requires-2 : goal.merge_into-requires-2
+merge_into-requires-2 c =
+    let g = c.requires.0 in
+    (g.formed, (g.orderly, (omega (arith, g.room), (omega arith, (omega arith, omega arith)))))
+
+pub returns : goal.returns
+returns c =
+    next_into (limits_of c.args.le c.args.lk c.args.lf) c.args.top c.args.w.now c.requires.0 c.requires.1 _ _ _ _ c.if-x-y.false (omega arith) (omega arith) c.merge_into-2.ensures

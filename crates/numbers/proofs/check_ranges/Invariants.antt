@@ -1,0 +1,15 @@
+-- What is left to read gives the answer of the whole row.
+use Rattle.numbers.specs.Loops.{left, left_all, left_next, left_refused, left_end, value_next, value_refused}
+use Rattle.rules.specs.Reading.{many, ranged}
+use Rattle.numbers.specs.Answers.{checked}
+use Prim.Native.Nat.{◌≤◌, ◌-◌}
+use borrow.Author.Rules.{rules}
+use native.Mathlib.Omega.{arith}
+use mathlib.Core.Path.{◌≡◌, sym, ◌∙◌}
+use Rattle.numbers.proofs.check_ranges.Given as goal
+
+abbrev pub invariant-loop-i : goal.invariant-loop-i
+invariant-loop-i l = (l.i ≤ l.count) × (checked (many l.count (ranged l.low l.high l.book) l.at) ≡ left l.count (ranged l.low l.high l.book) l.i l.p)
+
+abbrev pub decreases-loop-i : goal.decreases-loop-i
+decreases-loop-i l = l.count - l.i

@@ -1,0 +1,15 @@
+-- No key passed yields the element.
+use native.Mathlib.Omega.{arith}
+use borrow.Author.Rules.{rules}
+use Prim.Native.Nat.{◌-◌, ◌≤◌}
+use mathlib.Core.Path.{◌≡◌, sym, ◌∙◌}
+use lib.ListN.{drop}
+use Rattle.base.specs.Lists.{mem}
+use Rattle.pages.specs.Tables.{values_in, value_here, value_there, value_none}
+use Rattle.pages.proofs.yielded.Given as goal
+
+abbrev pub invariant-loop-i : goal.invariant-loop-i
+invariant-loop-i l = (l.i ≤ l.keys) × (mem l.element (values_in l.keys l.s) ≡ mem l.element (drop l.i (values_in l.keys l.s)))
+
+abbrev pub decreases-loop-i : goal.decreases-loop-i
+decreases-loop-i l = l.keys - l.i

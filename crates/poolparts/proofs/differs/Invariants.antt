@@ -1,0 +1,14 @@
+-- The slots passed are free or have other numbers.
+use borrow.Author.Rules.{rules}
+use Prim.Native.Nat.{◌≤◌, ◌-◌}
+use mathlib.Core.Path.{◌≡◌, refl, sym, ◌∙◌}
+use native.Mathlib.Omega.{arith}
+use Rattle.sheetparts.specs.Loops.{every, turn, out, done}
+use Rattle.poolparts.specs.Tests.{other_at, differs}
+use Rattle.poolparts.proofs.differs.Given as goal
+
+abbrev pub invariant-loop-j : goal.invariant-loop-j
+invariant-loop-j l = (l.j ≤ l.i) × (differs l.p l.i ≡ every (other_at l.p l.i) l.j l.i)
+
+abbrev pub decreases-loop-j : goal.decreases-loop-j
+decreases-loop-j l = l.i - l.j

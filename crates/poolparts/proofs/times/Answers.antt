@@ -1,0 +1,28 @@
+-- The count so far and that of the rest come to the whole.
+use borrow.Author.Rules.{rules}
+use Prim.Native.Nat.{◌≤◌, ◌-◌, ◌+◌}
+use mathlib.Core.Path.{◌≡◌}
+use mathlib.Core.List.{map}
+use native.Mathlib.Omega.{arith}
+use Rattle.pools.specs.Count.{cnt}
+use Rattle.sheetparts.specs.Loops.{up_to}
+use Rattle.sheetparts.specs.Tests.{byte_at}
+use Rattle.poolparts.specs.Tests.{row_at}
+use Rattle.poolparts.specs.Ways.{count_hit, count_miss, count_end}
+use Rattle.poolparts.proofs.times.Goals as goal
+
+pub loop-j-init : goal.loop-j-init
+unfolding row_at
+loop-j-init c = ((omega arith, omega arith), omega arith)
+
+pub loop-j-preserved-then-x-i : goal.loop-j-preserved-then-x-i
+loop-j-preserved-then-x-i c =
+    ((omega arith, omega arith), count_hit (λ k. byte_at c.args.p.now (c.args.at + k)) _ _ _ _ _ c.loop-j.invariant.1 _ (omega arith) c.byte-x.ensures.0 c.if-x-i.true)
+
+pub loop-j-preserved : goal.loop-j-preserved
+loop-j-preserved c =
+    ((omega arith, omega arith), count_miss (λ k. byte_at c.args.p.now (c.args.at + k)) _ _ _ _ _ c.loop-j.invariant.1 _ (omega arith) c.byte-x.ensures.0 c.if-x-i.false)
+
+pub returns : goal.returns
+returns c =
+    (count_end (λ k. byte_at c.args.p.now (c.args.at + k)) _ _ _ _ _ c.loop-j.invariant.1 (omega arith), omega arith)

@@ -1,0 +1,12 @@
+-- The sum stays below the modulus, so that the next product fits.
+use native.Mathlib.Omega.{arith}
+use borrow.Author.Rules.{rules}
+use Prim.Native.Nat.{◌≤◌, ◌<◌, ◌-◌}
+use lib.ListN.{length}
+use Rattle.replaycalls.proofs.sum.Given as goal
+
+abbrev pub invariant-loop-i : goal.invariant-loop-i
+invariant-loop-i l = (l.i ≤ length l.s) × (l.h < 4294967291)
+
+abbrev pub decreases-loop-i : goal.decreases-loop-i
+decreases-loop-i l = length l.s - l.i

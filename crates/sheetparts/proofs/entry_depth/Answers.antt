@@ -1,0 +1,33 @@
+-- The arguments from j on give the depth.
+use Rattle.sheetparts.specs.Ways.{deep_taken, deep_left}
+use borrow.Author.Rules.{rules}
+use Prim.Native.Nat.{◌≤◌, ◌<◌, ◌-◌, ◌+◌}
+use mathlib.Core.Path.{◌≡◌}
+use mathlib.Core.List.{map}
+use native.Mathlib.Omega.{arith}
+use Rattle.rules.specs.Bound.{depth_over}
+use Rattle.sheetparts.specs.Loops.{up_to}
+use Rattle.sheetparts.specs.Tests.{byte_at, arg_depth, entry_depth}
+use Rattle.sheetparts.specs.Ways.{none_deep}
+use Rattle.sheetparts.proofs.entry_depth.Goals as goal
+
+pub loop-j-init : goal.loop-j-init
+loop-j-init c = ((omega arith, omega arith), (omega arith, none_deep _ _ _ (omega arith)))
+
+pub loop-j-preserved-then-most-deep : goal.loop-j-preserved-then-most-deep
+unfolding arg_depth
+loop-j-preserved-then-most-deep c =
+    let q = rw c.byte-e.ensures.0 at c.byte-deep.ensures.0 in
+    ((omega arith, c.loop-j.invariant.0.1), (omega arith, deep_taken _ _ _ _ _ (omega arith) c.loop-j.invariant.0.0 q c.loop-j.invariant.1.1 c.if-most-deep.true))
+
+pub loop-j-preserved : goal.loop-j-preserved
+unfolding arg_depth
+loop-j-preserved c =
+    let q = rw c.byte-e.ensures.0 at c.byte-deep.ensures.0 in
+    ((omega arith, c.loop-j.invariant.0.1), (omega arith, deep_left _ _ _ _ _ (omega arith) c.loop-j.invariant.0.0 q c.loop-j.invariant.1.1 c.if-most-deep.false))
+
+pub returns : goal.returns
+unfolding entry_depth
+returns c =
+    let z : c.loop-j.j ≡ 0 = omega arith in
+    (rw z at c.loop-j.invariant.1.1, c.loop-j.invariant.1.0)

@@ -1,0 +1,18 @@
+-- The arguments from j on give the depth.
+use Rattle.sheetparts.specs.Ways.{deep_taken, deep_left}
+use borrow.Author.Rules.{rules}
+use Prim.Native.Nat.{◌≤◌, ◌<◌, ◌-◌, ◌+◌}
+use mathlib.Core.Path.{◌≡◌}
+use mathlib.Core.List.{map}
+use native.Mathlib.Omega.{arith}
+use Rattle.rules.specs.Bound.{depth_over}
+use Rattle.sheetparts.specs.Loops.{up_to}
+use Rattle.sheetparts.specs.Tests.{byte_at, arg_depth, entry_depth}
+use Rattle.sheetparts.specs.Ways.{none_deep}
+use Rattle.sheetparts.proofs.entry_depth.Given as goal
+
+abbrev pub invariant-loop-j : goal.invariant-loop-j
+invariant-loop-j l = ((l.j ≤ byte_at l.s (l.at + 2)) × (byte_at l.s (l.at + 2) < 256)) × ((l.most ≤ 256) × (l.most ≡ depth_over (map (arg_depth l.s l.d l.at) (up_to l.j (byte_at l.s (l.at + 2))))))
+
+abbrev pub decreases-loop-j : goal.decreases-loop-j
+decreases-loop-j l = l.j

@@ -1,0 +1,15 @@
+-- The terms still to come are counted; each turn reads one and adds those directly below it.
+use native.Mathlib.Omega.{arith}
+use borrow.Author.Rules.{rules}
+use Prim.Native.Nat.{◌≤◌, ◌-◌, ◌+◌, ◌*◌}
+use lib.ListN.{length}
+use Rattle.texts.specs.Names.{names_in}
+use Rattle.skips.specs.Rest.{Within}
+use Rattle.skips.specs.Terms.{Awaits, awaits_next, awaits_short, awaits_end}
+use Rattle.skips.proofs.skip_terms.Given as goal
+
+abbrev pub invariant-loop-left : goal.invariant-loop-left
+invariant-loop-left l = (l.left ≤ 65536 * (l.p + 1)) × (Within l.at (length l.text) l.p × Awaits (names_in l.book) l.text l.at l.n l.p l.left)
+
+abbrev pub decreases-loop-left : goal.decreases-loop-left
+decreases-loop-left l = length l.text - l.p

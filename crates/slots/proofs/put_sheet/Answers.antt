@@ -1,0 +1,10 @@
+use Prim.Native.Nat.{◌+◌, ◌*◌}
+use native.Mathlib.Omega.{arith}
+use Rattle.octets.specs.Patch.{patched_lent}
+use borrow.Author.Rules.{rules}
+use Rattle.slots.proofs.put_sheet.Goals as goal
+
+pub returns : goal.returns
+returns c =
+    let size = 16 + 8 * c.args.lk + 8 * c.args.lf + c.args.le in
+    patched_lent (208 + size * c.args.i) size _ _ c.args.pool.now (omega arith) c.pool-1.given.0 c.store_sheet.ensures

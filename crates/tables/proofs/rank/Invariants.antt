@@ -1,0 +1,15 @@
+-- Halving: the place stays between the two ends.
+use Prim.Native.Nat.{◌≤◌, ◌-◌, ◌+◌, ◌/◌}
+use mathlib.Core.Path.{◌≡◌}
+use native.Mathlib.Omega.{arith}
+use borrow.Author.Rules.{rules}
+use lib.ListN.{length, take}
+use lib.Seq.{length-take-le}
+use Rattle.tables.specs.Table.{Between, rank_le, upper_half, lower_half}
+use Rattle.tables.proofs.rank.Given as goal
+
+abbrev pub invariant-loop-lo : goal.invariant-loop-lo
+invariant-loop-lo l = (l.hi ≤ l.n) × Between l.q (take l.n l.t) l.lo l.hi
+
+abbrev pub decreases-loop-lo : goal.decreases-loop-lo
+decreases-loop-lo l = l.hi - l.lo

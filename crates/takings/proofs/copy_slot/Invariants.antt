@@ -1,0 +1,14 @@
+-- The front is the copy so far.
+use borrow.Author.Rules.{rules}
+use Prim.Native.Nat.{◌≤◌, ◌-◌}
+use mathlib.Core.Path.{◌≡◌, refl}
+use native.Mathlib.Omega.{arith}
+use lib.ListN.{length, length-set}
+use Rattle.takings.specs.Moves.{copied, copy_none, copy_more}
+use Rattle.takings.proofs.copy_slot.Given as goal
+
+abbrev pub invariant-loop-j : goal.invariant-loop-j
+invariant-loop-j l = (l.j ≤ 2128) × ((length l.out ≡ length l.initial.out) × (l.out ≡ copied l.pool l.a l.j l.initial.out))
+
+abbrev pub decreases-loop-j : goal.decreases-loop-j
+decreases-loop-j l = 2128 - l.j

@@ -1,0 +1,7 @@
+-- Copied, cleared, and gone from its list.
+use Rattle.takings.specs.Take.{popped_behind}
+use borrow.Author.Rules.{rules}
+use Rattle.takings.proofs.give.Goals as goal
+
+pub returns : goal.returns
+returns c = (popped_behind c.args.j _ _ _ c.clear_slot.ensures c.pop.ensures, c.copy_slot.ensures)

@@ -1,0 +1,19 @@
+-- The levels fall; what is left of the arguments gives the answer of all.
+use Rattle.terms.specs.Head.{args_at, term_none, term_step}
+use Rattle.numbers.specs.Loops.{left as rest, left_all, left_next, left_refused, left_end}
+use Rattle.rules.specs.Reading.{term_at}
+use Prim.Native.Nat.{ℕ, ◌<◌, ◌≤◌, ◌-◌}
+use Rattle.texts.specs.Names.{names_in}
+use borrow.Author.Rules.{rules}
+use native.Mathlib.Omega.{arith}
+use mathlib.Core.Path.{◌≡◌, sym, ◌∙◌}
+use Rattle.terms.proofs.+check_term.Given as goal
+
+abbrev pub decreases-check_term : goal.decreases-check_term
+decreases-check_term l = l.left
+
+abbrev pub invariant-loop-i : goal.invariant-loop-i
+invariant-loop-i l = (l.i ≤ l.count) × (args_at (l.left - 1) (names_in l.book) l.v l.book l.count l.first ≡ rest l.count (term_at (l.left - 1) (names_in l.book) l.v l.book) l.i l.p)
+
+abbrev pub decreases-loop-i : goal.decreases-loop-i
+decreases-loop-i l = l.count - l.i
