@@ -8,12 +8,8 @@ pub mod Rising
 pub mod Filing
 pub mod Rounds
 pub mod Way
-pub mod Survivors
 pub mod Depths
-pub mod Merged
 pub mod Within
-pub mod Sound
-pub mod History
 pub mod Lowering
 pub mod Rust
 pub mod Children

@@ -11,7 +11,7 @@ use Rattle.rules.specs.Sheet.{Entry, Model}
 use Rattle.rules.specs.Bound.{History}
 use Rattle.rules.specs.Merge.{rename, Pair, lowered, merge}
 use Rattle.laws.specs.MergeBy.{Orders, EachReorders, merge_into_by, merge_all_by, merge_by}
-use Rattle.laws.specs.MergeByLaws.{merge_has}
+use Rattle.laws.proofs.MergeByLaws.{merge_has}
 use Rattle.soundness.specs.Join.{into_length}
 
 -- ---- renaming the larger of two elements to the smaller

@@ -15,7 +15,7 @@ use Rattle.rules.specs.Bound.{History}
 use Rattle.rules.specs.Merge.{rename, rename_entry, rename_fact, Pair, rename_pair, refile, refact}
 use Rattle.laws.specs.Tables.{KeysRise, refile_all, refile_rises, refact_all}
 use Rattle.laws.specs.MergeBy.{Reorders, merge_into_by}
-use Rattle.laws.specs.MergeByLaws.{reorders_back}
+use Rattle.laws.proofs.MergeByLaws.{reorders_back}
 use Rattle.soundness.specs.Tools.{some_meets}
 use Rattle.congruence.specs.Forced.{Congruence, args_related}
 use Rattle.congruence.specs.Images.{key_image, entry_image, fact_image, key_twice, entry_twice, fact_twice, entry_self, fact_self, From, from_on, self_from, self_there}

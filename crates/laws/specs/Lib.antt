@@ -3,4 +3,3 @@ pub mod Tables
 pub mod InOrder
 pub mod Firing
 pub mod MergeBy
-pub mod MergeByLaws

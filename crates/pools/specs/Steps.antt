@@ -13,7 +13,7 @@ use Rattle.base.specs.BranchLaws.{if_elim, case_o_elim, case_l_elim, and_l, and_
 use Rattle.base.specs.ListLaws.{all_any, all_both}
 use Rattle.rules.specs.Book.{Sequent, Book, rules}
 use Rattle.rules.specs.Sheet.{Model, Sheet, domain, empty, blank, Limits}
-use Rattle.rules.specs.Fire.{Firing, firing, Strategy, linear, fair, visits, places, place_after, numbered}
+use Rattle.rules.specs.Fire.{Firing, firing, Strategy, linear, fair, visits, places, place_after}
 use Rattle.rules.specs.Bound.{Bound}
 use Rattle.rules.specs.Child.{Child, child}
 use Rattle.rules.specs.Pool.{State, schedulers, strategies, strategy_of, numbers, sheet_at, used, free, opened, changed, freed}

@@ -1,5 +1,5 @@
 -- One element renamed in a table in order, at one place and at all: the table is in order again.
-use Rattle.std.specs.Prelude.{◌≡◌, ℕ, ◌-◌, ◌<◌, List, ◌++◌, map}
+use Rattle.std.specs.Prelude.{◌≡◌, ℕ, ◌<◌, List, ◌++◌, map}
 use Rattle.std.proofs.Common.{sym, ap, ap₂, ◌∙◌, subst}
 use Rattle.base.specs.ListLaws.{map_map, map_agree, all_any}
 use Rattle.rules.specs.Image.{part}

@@ -22,10 +22,10 @@ use Rattle.base.specs.BranchLaws.{if_elim, case_o_elim, neqb→ne}
 use Rattle.base.specs.ListLaws.{map_map, all_all, all_map, all_unmap, some_some, some_map}
 use Rattle.rules.specs.Sheet.{Key, Entry, Model, find, insert_key}
 use Rattle.rules.specs.Bound.{depth_over, History}
-use Rattle.rules.specs.Merge.{rename, rename_entry, rename_fact, Pair, rename_pair, Filed, file, refile, merge_depths, sum, lower, lowered, merge}
+use Rattle.rules.specs.Merge.{rename, rename_entry, rename_fact, Pair, rename_pair, Filed, file, refile, merge_depths, sum, lowered, merge}
 use Rattle.laws.specs.Tables.{find_all, insert_key_all, refile_all, refact_all}
 use Rattle.laws.specs.MergeBy.{Reorders, Orders, EachReorders, merge_into_by, merge_all_by, merge_by}
-use Rattle.laws.specs.MergeByLaws.{reorders_back, merge_has}
+use Rattle.laws.proofs.MergeByLaws.{reorders_back, merge_has}
 use Rattle.soundness.specs.Tools.{insert_key_new, insert_key_old, insert_key_length, KeyOver, FactOver, Yields, keys_over, facts_over, Yielded, all_yielded, yielded_has}
 use Rattle.soundness.specs.Settle.{depth_in, given, given_below, ReachedBy, AtRest, Reached, lower_rests, lower_reached, lower_below, lower_length}
 

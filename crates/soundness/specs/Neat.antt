@@ -15,7 +15,7 @@ use Rattle.rules.specs.Merge.{rename, rename_entry, rename_fact, Pair, rename_pa
 use Rattle.rules.specs.Sound.{has_arity, declared_as, key_declared, fact_declared}
 use Rattle.laws.specs.Tables.{KeysRise, FactsRise, refile_all, refile_rises, refact_all, refact_rises}
 use Rattle.laws.specs.MergeBy.{Reorders, Orders, EachReorders, merge_into_by, merge_all_by, merge_by}
-use Rattle.laws.specs.MergeByLaws.{merge_has}
+use Rattle.laws.proofs.MergeByLaws.{merge_has}
 use Rattle.soundness.specs.Tools.{insert_key_short, insert_fact_short}
 use Rattle.soundness.specs.Join.{Linked}
 

@@ -9,7 +9,7 @@ use Rattle.rules.specs.Book.{Term, var, con, app, Terms, nil, cons, Literal, fac
 use Rattle.rules.specs.Reading.{Bytes, num}
 use Rattle.texts.specs.Reads.{Follow}
 use Rattle.texts.specs.Names.{nums}
-use Rattle.texts.specs.Text.{count, TermText, TermsText, LiteralText, OriginText, DisjunctText, SequentText}
+use Rattle.texts.specs.Text.{TermText, TermsText, LiteralText, OriginText, DisjunctText, SequentText}
 
 -- ---- texts grow
 

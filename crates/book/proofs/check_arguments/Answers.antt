@@ -5,7 +5,6 @@ use borrow.Author.Tests.{eq-eqb, ne_eqb}
 use Rattle.numbers.specs.Answers.{checked_giving}
 use Rattle.texts.specs.Names.{names_in}
 use mathlib.Core.Path.{sym, ◌∙◌, refl}
-use borrow.Author.Rules.{rules}
 use Rattle.book.proofs.check_arguments.Goals as goal
 
 pub returns-then-k-arity_of : goal.returns-then-k-arity_of

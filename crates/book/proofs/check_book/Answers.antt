@@ -6,7 +6,6 @@ use borrow.Author.Tests.{lt-ltb, le-ltb, eq-eqb, ne_eqb}
 use Rattle.rules.specs.Reading.{ended}
 use Rattle.numbers.specs.Answers.{checked}
 use mathlib.Core.Path.{sym, ap, ◌∙◌, refl}
-use borrow.Author.Rules.{rules}
 use Rattle.book.proofs.check_book.Goals as goal
 
 pub returns-then-book-gt32768 : goal.returns-then-book-gt32768

@@ -4,7 +4,6 @@ use Rattle.rules.specs.Reading.{disjunct_at}
 use Rattle.numbers.specs.Answers.{checked_giving}
 use native.Mathlib.Omega.{arith}
 use mathlib.Core.Path.{sym, ◌∙◌}
-use borrow.Author.Rules.{rules}
 use Rattle.book.proofs.check_disjunct.Goals as goal
 
 pub overflow_add-v : goal.overflow_add-v

@@ -1,12 +1,9 @@
 -- What is left to read gives the answer of all.
-use Rattle.rules.specs.Reading.{many, disjunct_at}
-use Rattle.numbers.specs.Loops.{left, left_all, left_next, left_refused, left_end}
-use Rattle.numbers.specs.Answers.{checked}
-use Prim.Native.Nat.{◌≤◌, ◌-◌}
+use Rattle.rules.specs.Reading.{disjunct_at}
+use Rattle.numbers.specs.Loops.{left_all, left_next, left_refused, left_end}
 use Rattle.texts.specs.Names.{names_in}
-use borrow.Author.Rules.{rules}
 use native.Mathlib.Omega.{arith}
-use mathlib.Core.Path.{◌≡◌, sym, ◌∙◌}
+use mathlib.Core.Path.{sym, ◌∙◌}
 use Rattle.book.proofs.check_disjuncts.Goals as goal
 
 pub loop-i-init : goal.loop-i-init

@@ -3,7 +3,6 @@ use Rattle.book.specs.Steps.{names_start}
 use Rattle.numbers.specs.Chains.{after_is, after_fault}
 use Rattle.texts.specs.Heads.{front_at}
 use mathlib.Core.Path.{sym, ◌∙◌}
-use borrow.Author.Rules.{rules}
 use Rattle.book.proofs.check_front.Goals as goal
 
 pub returns-in-Fault : goal.returns-in-Fault

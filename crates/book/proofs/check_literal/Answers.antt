@@ -7,7 +7,6 @@ use Rattle.numbers.specs.Answers.{checked, value, checked_giving}
 use Rattle.texts.specs.Names.{names_in}
 use Rattle.rules.specs.Book.{same}
 use mathlib.Core.Path.{sym, ap, ◌∙◌, refl}
-use borrow.Author.Rules.{rules}
 use Rattle.book.proofs.check_literal.Goals as goal
 
 pub returns-in-Fault-read_declared : goal.returns-in-Fault-read_declared

@@ -3,7 +3,6 @@ use Rattle.book.specs.Steps.{value_then_is, value_then_fault, told}
 use Rattle.rules.specs.Reading.{mark, mark_byte}
 use Rattle.numbers.specs.Answers.{value_is, value_fault}
 use mathlib.Core.Path.{sym, ◌∙◌, refl}
-use borrow.Author.Rules.{rules}
 use Rattle.book.proofs.check_mark.Goals as goal
 
 pub returns-in-Fault : goal.returns-in-Fault

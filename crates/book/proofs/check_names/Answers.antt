@@ -6,7 +6,6 @@ use Rattle.texts.specs.Names.{nums, functions_count, relations_count, witnesses_
 use Rattle.rules.specs.Reading.{many, ranged}
 use Rattle.numbers.specs.Answers.{checked, checked_giving}
 use mathlib.Core.Path.{sym, ap, ◌∙◌}
-use borrow.Author.Rules.{rules}
 use Rattle.book.proofs.check_names.Goals as goal
 
 pub returns-in-Refused : goal.returns-in-Refused

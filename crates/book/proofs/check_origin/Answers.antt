@@ -5,7 +5,6 @@ use borrow.Author.Tests.{lt-ltb, le-ltb}
 use Rattle.rules.specs.Reading.{origin_at, declared}
 use Rattle.numbers.specs.Answers.{value}
 use mathlib.Core.Path.{sym, ap, ◌∙◌, refl}
-use borrow.Author.Rules.{rules}
 use Rattle.book.proofs.check_origin.Goals as goal
 
 pub returns-then-kind-gt1 : goal.returns-then-kind-gt1

@@ -1,12 +1,10 @@
 -- What is left to read gives the answer of all.
 use Rattle.rules.specs.Reading.{many, sequent_at}
-use Rattle.numbers.specs.Loops.{left, left_all, left_next, left_refused, left_end}
+use Rattle.numbers.specs.Loops.{left}
 use Rattle.numbers.specs.Answers.{checked}
 use Prim.Native.Nat.{◌≤◌, ◌-◌}
 use Rattle.texts.specs.Names.{names_in}
-use borrow.Author.Rules.{rules}
-use native.Mathlib.Omega.{arith}
-use mathlib.Core.Path.{◌≡◌, sym, ◌∙◌}
+use mathlib.Core.Path.{◌≡◌}
 use Rattle.book.proofs.check_sequents.Given as goal
 
 abbrev pub invariant-loop-i : goal.invariant-loop-i

@@ -1,10 +1,8 @@
 -- The indices before the present one have started again.
 use native.Mathlib.Omega.{arith}
-use borrow.Author.Rules.{rules}
-use Prim.Native.Nat.{◌≤◌, ◌-◌, ◌+◌}
+use Prim.Native.Nat.{◌-◌, ◌+◌}
 use mathlib.Core.Path.{◌≡◌, refl, ◌∙◌, subst}
-use lib.ListN.{length, take, set, length-set}
-use Rattle.choosing.specs.Choosing.{Below}
+use lib.ListN.{take, set, length-set}
 use Rattle.choosing.specs.Steps.{Carries, carries_start, advance_end, index_below, advance_stop, advance_on}
 use Rattle.choosing.proofs.advance.Goals as goal
 

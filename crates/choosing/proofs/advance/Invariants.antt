@@ -1,11 +1,9 @@
 -- The indices before the present one have started again.
-use native.Mathlib.Omega.{arith}
-use borrow.Author.Rules.{rules}
-use Prim.Native.Nat.{◌≤◌, ◌-◌, ◌+◌}
-use mathlib.Core.Path.{◌≡◌, refl, ◌∙◌, subst}
-use lib.ListN.{length, take, set, length-set}
+use Prim.Native.Nat.{◌≤◌, ◌-◌}
+use mathlib.Core.Path.{◌≡◌}
+use lib.ListN.{length, take}
 use Rattle.choosing.specs.Choosing.{Below}
-use Rattle.choosing.specs.Steps.{Carries, carries_start, advance_end, index_below, advance_stop, advance_on}
+use Rattle.choosing.specs.Steps.{Carries}
 use Rattle.choosing.proofs.advance.Given as goal
 
 abbrev pub invariant-loop-left : goal.invariant-loop-left

@@ -1,12 +1,11 @@
 -- The first i elements are chosen.
 use native.Mathlib.Omega.{arith}
-use borrow.Author.Rules.{rules}
-use Prim.Native.Nat.{◌≤◌, ◌<◌, ◌-◌}
+use Prim.Native.Nat.{◌<◌}
 use mathlib.Core.Path.{◌≡◌, ◌∙◌, subst}
-use lib.ListN.{length, get_or, take, length-set}
+use lib.ListN.{get_or, take, length-set}
 use lib.Seq.{get_or-take, length-take-le}
 use Rattle.base.specs.ListLaws.{all_get_d}
-use Rattle.choosing.specs.Steps.{Chooses, chooses_next}
+use Rattle.choosing.specs.Steps.{chooses_next}
 use Rattle.choosing.proofs.choose.Goals as goal
 
 pub offset_bounds-dom-j : goal.offset_bounds-dom-j

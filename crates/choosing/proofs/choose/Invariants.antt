@@ -1,12 +1,8 @@
 -- The first i elements are chosen.
-use native.Mathlib.Omega.{arith}
-use borrow.Author.Rules.{rules}
-use Prim.Native.Nat.{◌≤◌, ◌<◌, ◌-◌}
-use mathlib.Core.Path.{◌≡◌, ◌∙◌, subst}
-use lib.ListN.{length, get_or, take, length-set}
-use lib.Seq.{get_or-take, length-take-le}
-use Rattle.base.specs.ListLaws.{all_get_d}
-use Rattle.choosing.specs.Steps.{Chooses, chooses_next}
+use Prim.Native.Nat.{◌≤◌, ◌-◌}
+use mathlib.Core.Path.{◌≡◌}
+use lib.ListN.{length, take}
+use Rattle.choosing.specs.Steps.{Chooses}
 use Rattle.choosing.proofs.choose.Given as goal
 
 abbrev pub invariant-loop-i : goal.invariant-loop-i

@@ -3,7 +3,6 @@ use Rattle.rules.specs.Reading.{witness_arity}
 use native.Mathlib.Omega.{arith}
 use Rattle.base.specs.Branch.{if}
 use borrow.Author.Tests.{eq-eqb, ne_eqb}
-use borrow.Author.Rules.{rules}
 use Rattle.counts.proofs.arity_of.Goals as goal
 
 pub returns-then-kind-eq0 : goal.returns-then-kind-eq0

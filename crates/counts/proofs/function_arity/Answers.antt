@@ -2,7 +2,6 @@
 use Rattle.texts.specs.Names.{function_arity, function_none}
 use native.Mathlib.Omega.{arith}
 use mathlib.Core.Path.{sym, ◌∙◌}
-use borrow.Author.Rules.{rules}
 use Rattle.counts.proofs.function_arity.Goals as goal
 
 pub returns-then-f-num16 : goal.returns-then-f-num16

@@ -4,7 +4,6 @@ use Prim.Native.Nat.{◌+◌, ◌*◌}
 use Rattle.rules.specs.Reading.{num}
 use native.Mathlib.Omega.{arith}
 use mathlib.Core.Path.{sym, ap, ◌∙◌}
-use borrow.Author.Rules.{rules}
 use Rattle.counts.proofs.relation_arity.Goals as goal
 
 pub returns-then-r-num16 : goal.returns-then-r-num16

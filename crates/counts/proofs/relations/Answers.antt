@@ -1,7 +1,6 @@
 -- There are as many arities as counted.
 use Rattle.texts.specs.Names.{relations_count}
 use mathlib.Core.Path.{sym, ◌∙◌}
-use borrow.Author.Rules.{rules}
 use Rattle.counts.proofs.relations.Goals as goal
 
 pub returns : goal.returns

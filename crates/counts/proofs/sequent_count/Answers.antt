@@ -1,7 +1,6 @@
 -- The number at the place of the sequent count.
 use Rattle.rules.specs.Reading.{num}
 use mathlib.Core.Path.{ap, ◌∙◌}
-use borrow.Author.Rules.{rules}
 use Rattle.counts.proofs.sequent_count.Goals as goal
 
 pub returns : goal.returns

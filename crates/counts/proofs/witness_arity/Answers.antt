@@ -4,7 +4,6 @@ use Prim.Native.Nat.{◌+◌, ◌*◌}
 use Rattle.rules.specs.Reading.{num}
 use native.Mathlib.Omega.{arith}
 use mathlib.Core.Path.{sym, ap, ◌∙◌}
-use borrow.Author.Rules.{rules}
 use Rattle.counts.proofs.witness_arity.Goals as goal
 
 pub returns-then-w-num16 : goal.returns-then-w-num16

@@ -2,7 +2,6 @@
 use Rattle.rules.specs.Reading.{witnesses}
 use Rattle.base.specs.Branch.{if}
 use borrow.Author.Tests.{eq-eqb, ne_eqb}
-use borrow.Author.Rules.{rules}
 use Rattle.counts.proofs.witnesses_of.Goals as goal
 
 pub returns-then-kind-eq0 : goal.returns-then-kind-eq0

@@ -1,11 +1,8 @@
 -- The rest of the domain has the same answer as the whole.
-use native.Mathlib.Omega.{arith}
-use borrow.Author.Rules.{rules}
 use Prim.Native.Nat.{◌≤◌, ◌-◌}
 use mathlib.Core.Path.{◌≡◌}
 use lib.ListN.{take, drop}
 use Rattle.base.specs.Lists.{mem}
-use Rattle.domains.specs.Front.{mem_here, mem_on, mem_end}
 use Rattle.domains.proofs.known.Given as goal
 
 abbrev pub invariant-loop-i : goal.invariant-loop-i

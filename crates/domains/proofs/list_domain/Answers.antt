@@ -1,10 +1,8 @@
 -- The numbers listed so far are the first appearances among the values passed.
 use native.Mathlib.Omega.{arith}
-use borrow.Author.Rules.{rules}
-use Prim.Native.Nat.{◌≤◌, ◌-◌}
 use mathlib.Core.Path.{◌≡◌, refl, sym, ◌∙◌}
-use lib.ListN.{length, length-set}
-use Rattle.domains.specs.Firsts.{Listed, listed_none, listed_old, listed_new}
+use lib.ListN.{length-set}
+use Rattle.domains.specs.Firsts.{listed_none, listed_old, listed_new}
 use Rattle.domains.proofs.list_domain.Goals as goal
 
 pub loop-i-init : goal.loop-i-init

@@ -1,10 +1,8 @@
 -- The numbers listed so far are the first appearances among the values passed.
-use native.Mathlib.Omega.{arith}
-use borrow.Author.Rules.{rules}
 use Prim.Native.Nat.{◌≤◌, ◌-◌}
-use mathlib.Core.Path.{◌≡◌, refl, sym, ◌∙◌}
-use lib.ListN.{length, length-set}
-use Rattle.domains.specs.Firsts.{Listed, listed_none, listed_old, listed_new}
+use mathlib.Core.Path.{◌≡◌}
+use lib.ListN.{length}
+use Rattle.domains.specs.Firsts.{Listed}
 use Rattle.domains.proofs.list_domain.Given as goal
 
 abbrev pub invariant-loop-i : goal.invariant-loop-i

@@ -1,6 +1,5 @@
 use native.Mathlib.Omega.{arith}
 use Rattle.filing.specs.File.{filed_new, filed_pair}
-use borrow.Author.Rules.{rules}
 use Rattle.filing.proofs.file.Goals as goal
 
 pub returns-then-v-lt256 : goal.returns-then-v-lt256

@@ -1,7 +1,5 @@
-use Prim.Native.Nat.{◌-◌}
 use native.Mathlib.Omega.{arith}
-use borrow.Author.Rules.{rules}
-use Rattle.filing.specs.File.{Refacting, refacting_start, refacting_none, refacting_next, refacting_end}
+use Rattle.filing.specs.File.{refacting_start, refacting_none, refacting_next, refacting_end}
 use Rattle.filing.proofs.refact.Goals as goal
 
 pub loop-i-init : goal.loop-i-init

@@ -1,7 +1,5 @@
 use Prim.Native.Nat.{◌-◌}
-use native.Mathlib.Omega.{arith}
-use borrow.Author.Rules.{rules}
-use Rattle.filing.specs.File.{Refacting, refacting_start, refacting_none, refacting_next, refacting_end}
+use Rattle.filing.specs.File.{Refacting}
 use Rattle.filing.proofs.refact.Given as goal
 
 abbrev pub invariant-loop-i : goal.invariant-loop-i

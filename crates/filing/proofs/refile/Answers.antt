@@ -1,7 +1,5 @@
-use Prim.Native.Nat.{◌-◌}
 use native.Mathlib.Omega.{arith}
-use borrow.Author.Rules.{rules}
-use Rattle.filing.specs.File.{Refiling, refiling_start, refiling_none, refiling_next, refiling_end}
+use Rattle.filing.specs.File.{refiling_start, refiling_none, refiling_next, refiling_end}
 use Rattle.filing.proofs.refile.Goals as goal
 
 pub loop-i-init : goal.loop-i-init

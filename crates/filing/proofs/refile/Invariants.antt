@@ -1,7 +1,5 @@
 use Prim.Native.Nat.{◌-◌}
-use native.Mathlib.Omega.{arith}
-use borrow.Author.Rules.{rules}
-use Rattle.filing.specs.File.{Refiling, refiling_start, refiling_none, refiling_next, refiling_end}
+use Rattle.filing.specs.File.{Refiling}
 use Rattle.filing.proofs.refile.Given as goal
 
 abbrev pub invariant-loop-i : goal.invariant-loop-i

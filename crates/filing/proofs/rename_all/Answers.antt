@@ -1,11 +1,9 @@
 -- Each entry that was passed went through `replaced`.
-use Prim.Native.Nat.{◌≤◌, ◌-◌}
 use mathlib.Core.Path.{◌≡◌, refl, sym}
 use native.Mathlib.Omega.{arith}
-use borrow.Author.Rules.{rules}
-use lib.ListN.{length, length-set}
+use lib.ListN.{length-set}
 use Rattle.packing.specs.Replace.{replaced}
-use Rattle.filing.specs.Front.{map_front, map_front_none, map_front_at, map_front_more}
+use Rattle.filing.specs.Front.{map_front_none, map_front_at, map_front_more}
 use Rattle.filing.proofs.rename_all.Goals as goal
 
 pub loop-i-init : goal.loop-i-init

@@ -1,11 +1,9 @@
 -- Each entry that was passed went through `replaced`.
 use Prim.Native.Nat.{◌≤◌, ◌-◌}
-use mathlib.Core.Path.{◌≡◌, refl, sym}
-use native.Mathlib.Omega.{arith}
-use borrow.Author.Rules.{rules}
-use lib.ListN.{length, length-set}
+use mathlib.Core.Path.{◌≡◌}
+use lib.ListN.{length}
 use Rattle.packing.specs.Replace.{replaced}
-use Rattle.filing.specs.Front.{map_front, map_front_none, map_front_at, map_front_more}
+use Rattle.filing.specs.Front.{map_front}
 use Rattle.filing.proofs.rename_all.Given as goal
 
 abbrev pub invariant-loop-i : goal.invariant-loop-i

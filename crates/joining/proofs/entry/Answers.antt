@@ -2,7 +2,6 @@
 use lib.ListN.{get_or-eq_default}
 use native.Mathlib.Omega.{arith}
 use mathlib.Core.Path.{sym}
-use borrow.Author.Rules.{rules}
 use Rattle.joining.proofs.entry.Goals as goal
 
 pub returns-else-i-t : goal.returns-else-i-t

@@ -5,7 +5,6 @@ use mathlib.Core.List.{List}
 use lib.ListN.{set}
 use Prim.Native.Nat.{min}
 use mathlib.Core.Path.{ap, ap₂, ◌∙◌}
-use borrow.Author.Rules.{rules}
 use Rattle.joining.proofs.join_depths.Goals as goal
 
 pub returns : goal.returns

@@ -2,7 +2,6 @@
 use lib.Seq.{set_out}
 use native.Mathlib.Omega.{arith}
 use mathlib.Core.Path.{sym}
-use borrow.Author.Rules.{rules}
 use Rattle.joining.proofs.set.Goals as goal
 
 pub returns-else-i-t : goal.returns-else-i-t

@@ -1,9 +1,6 @@
 -- The unread text falls: a list calls a term at its own place, and a term a list further on. Each way out has its law.
-use native.Mathlib.Omega.{arith}
-use borrow.Author.Rules.{rules}
-use lib.ListN.{length, take}
-use Rattle.look.specs.Ways.{list_end, list_missing, list_more, args_good_later, good_found, term_short, term_leaf, term_missing, term_apply}
-use Prim.Native.Nat.{ℕ, ◌<◌, ◌+◌, ◌*◌, ◌-◌}
+use lib.ListN.{length}
+use Prim.Native.Nat.{◌+◌, ◌*◌, ◌-◌}
 use Rattle.look.proofs.+look_list_look_term.Given as goal
 
 abbrev pub decreases-look_list : goal.decreases-look_list

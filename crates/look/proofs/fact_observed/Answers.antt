@@ -2,7 +2,6 @@
 use Rattle.look.specs.Literals.{fact_missing, fact_held}
 use lib.ListN.{take}
 use mathlib.Core.Path.{sym}
-use borrow.Author.Rules.{rules}
 use Rattle.look.proofs.fact_observed.Goals as goal
 
 pub returns-in-Missing : goal.returns-in-Missing

@@ -4,7 +4,6 @@ use lib.Seq.{length-take-le, get_or-take}
 use lib.ListN.{take}
 use native.Mathlib.Omega.{arith}
 use mathlib.Core.Path.{sym, ◌∙◌}
-use borrow.Author.Rules.{rules}
 use Rattle.look.proofs.look_variable.Goals as goal
 
 pub returns-then-at-ne : goal.returns-then-at-ne

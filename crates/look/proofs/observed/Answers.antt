@@ -2,7 +2,6 @@
 use Rattle.look.specs.Literals.{literal_short}
 use lib.ListN.{take}
 use mathlib.Core.Path.{sym, ◌∙◌}
-use borrow.Author.Rules.{rules}
 use Rattle.look.proofs.observed.Goals as goal
 
 pub returns-then-text-at-lt4 : goal.returns-then-text-at-lt4

@@ -1,7 +1,6 @@
 -- The second side is looked up behind the first.
 use Rattle.look.specs.Literals.{same_left, same_right, same_both}
 use lib.ListN.{take}
-use borrow.Author.Rules.{rules}
 use Rattle.look.proofs.same_observed.Goals as goal
 
 pub look_term-requires-in-Elem : goal.look_term-requires-in-Elem

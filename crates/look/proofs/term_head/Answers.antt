@@ -4,7 +4,6 @@ use Rattle.tables.specs.Table.{or_none, look_in}
 use lib.ListN.{take}
 use native.Mathlib.Omega.{arith}
 use mathlib.Core.Path.{sym, ap, ◌∙◌}
-use borrow.Author.Rules.{rules}
 use Rattle.look.proofs.term_head.Goals as goal
 
 pub returns-then-kind-eq0 : goal.returns-then-kind-eq0

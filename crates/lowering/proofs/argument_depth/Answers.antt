@@ -3,7 +3,6 @@ use mathlib.Core.Path.{sym, ap, ◌∙◌}
 use native.Mathlib.Omega.{arith}
 use Rattle.rules.specs.Image.{part}
 use Rattle.lowering.specs.Lower.{arg_there, arg_none}
-use borrow.Author.Rules.{rules}
 use Rattle.lowering.proofs.argument_depth.Goals as goal
 
 pub returns-then-i-count : goal.returns-then-i-count

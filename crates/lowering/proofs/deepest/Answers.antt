@@ -2,7 +2,6 @@
 use Rattle.lowering.specs.Lower.{deepest}
 use Prim.Native.Nat.{max}
 use mathlib.Core.Path.{ap₂, ◌∙◌}
-use borrow.Author.Rules.{rules}
 use Rattle.lowering.proofs.deepest.Goals as goal
 
 pub returns : goal.returns

@@ -2,7 +2,6 @@
 use mathlib.Core.Path.{sym}
 use native.Mathlib.Omega.{arith}
 use Rattle.images.specs.Kept.{part_at, part_out}
-use borrow.Author.Rules.{rules}
 use Rattle.lowering.proofs.depth.Goals as goal
 
 pub returns-then-e-n : goal.returns-then-e-n

@@ -1,11 +1,6 @@
 -- A pass that lowers leaves less to fall; one that does not has come to rest.
-use Prim.Native.Nat.{◌<◌}
-use mathlib.Core.Bool.{true, false}
 use Rattle.rules.specs.Image.{part}
-use lib.ListN.{length}
-use Rattle.lowering.specs.Rest.{Passing, left, passing_start, passing_next, passing_less, passing_end}
-use native.Mathlib.Omega.{arith}
-use mathlib.Core.Path.{◌≡◌, sym, subst}
+use Rattle.lowering.specs.Rest.{Passing, left}
 use Rattle.lowering.proofs.lower.Given as goal
 
 abbrev pub invariant-loop-fell : goal.invariant-loop-fell

@@ -2,13 +2,11 @@
 use Prim.Native.Nat.{◌+◌, ◌<◌, ◌≤◌}
 use Rattle.images.specs.Kept.{part_size}
 use lib.ListN.{get_or}
-use Rattle.lowering.specs.Lower.{lowest}
 use Rattle.lowering.specs.Rest.{lowered_none, lowered_not, lowered_less}
 use Rattle.packing.specs.Replace.{value_of}
 use mathlib.Core.Path.{ap}
 use native.Mathlib.Omega.{arith}
 use Rattle.images.specs.Kept.{part_at}
-use borrow.Author.Rules.{rules}
 use Rattle.lowering.proofs.lower_at.Goals as goal
 
 pub returns-then-v-n : goal.returns-then-v-n

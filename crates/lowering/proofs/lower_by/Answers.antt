@@ -2,9 +2,7 @@
 use lib.ListN.{length}
 use mathlib.Core.Path.{◌≡◌}
 use native.Mathlib.Omega.{arith}
-use Prim.Native.Nat.{◌-◌}
-use borrow.Author.Rules.{rules}
-use Rattle.lowering.specs.Rest.{Lowering, lowering_start, lowering_next, lowering_end}
+use Rattle.lowering.specs.Rest.{lowering_start, lowering_next, lowering_end}
 use Rattle.lowering.proofs.lower_by.Goals as goal
 
 pub loop-i-init : goal.loop-i-init

@@ -1,10 +1,6 @@
 -- What is left of the pass gives what the whole would.
-use lib.ListN.{length}
-use mathlib.Core.Path.{◌≡◌}
-use native.Mathlib.Omega.{arith}
 use Prim.Native.Nat.{◌-◌}
-use borrow.Author.Rules.{rules}
-use Rattle.lowering.specs.Rest.{Lowering, lowering_start, lowering_next, lowering_end}
+use Rattle.lowering.specs.Rest.{Lowering}
 use Rattle.lowering.proofs.lower_by.Given as goal
 
 abbrev pub invariant-loop-i : goal.invariant-loop-i

@@ -5,7 +5,6 @@ use Rattle.lowering.specs.Lower.{lowest_none, lowest_less, lowest_same}
 use Rattle.rules.specs.Image.{part}
 use native.Mathlib.Omega.{arith}
 use mathlib.Core.Path.{sym, ap, ◌∙◌}
-use borrow.Author.Rules.{rules}
 use Rattle.lowering.proofs.lowest.Goals as goal
 
 pub returns-then-count-eq0 : goal.returns-then-count-eq0

@@ -1,7 +1,6 @@
 use mathlib.Core.Path.{sym, ◌∙◌}
 use Rattle.texts.specs.Names.{names_in}
 use Rattle.mentions.specs.Nodes.{literal_short, literal_fact, literal_same}
-use borrow.Author.Rules.{rules}
 use Rattle.mentions.proofs.literal_mentions.Goals as goal
 
 pub returns-then-text-at-lt4 : goal.returns-then-text-at-lt4

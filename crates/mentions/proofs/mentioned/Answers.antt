@@ -1,11 +1,8 @@
 use native.Mathlib.Omega.{arith}
 use mathlib.Core.Path.{subst}
-use borrow.Author.Rules.{rules}
-use Prim.Native.Nat.{◌-◌, ◌≤◌}
-use lib.ListN.{length}
 use Rattle.texts.specs.Names.{names_in}
 use Rattle.mentions.specs.Nodes.{Mentions}
-use Rattle.mentions.specs.Rows.{Left, left_start, left_here, left_next, left_end}
+use Rattle.mentions.specs.Rows.{left_start, left_here, left_next, left_end}
 use Rattle.mentions.proofs.mentioned.Goals as goal
 
 pub loop-i-init : goal.loop-i-init

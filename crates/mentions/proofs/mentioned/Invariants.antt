@@ -1,11 +1,7 @@
-use native.Mathlib.Omega.{arith}
-use mathlib.Core.Path.{subst}
-use borrow.Author.Rules.{rules}
 use Prim.Native.Nat.{◌-◌, ◌≤◌}
 use lib.ListN.{length}
 use Rattle.texts.specs.Names.{names_in}
-use Rattle.mentions.specs.Nodes.{Mentions}
-use Rattle.mentions.specs.Rows.{Left, left_start, left_here, left_next, left_end}
+use Rattle.mentions.specs.Rows.{Left}
 use Rattle.mentions.proofs.mentioned.Given as goal
 
 abbrev pub invariant-loop-i : goal.invariant-loop-i

@@ -1,6 +1,5 @@
 use mathlib.Core.Path.{sym, ◌∙◌}
 use Rattle.mentions.specs.Nodes.{node_variable, node_other}
-use borrow.Author.Rules.{rules}
 use Rattle.mentions.proofs.node_is.Goals as goal
 
 pub returns-then-num16-eq0 : goal.returns-then-num16-eq0

@@ -1,9 +1,6 @@
 use native.Mathlib.Omega.{arith}
-use mathlib.Core.Path.{◌≡◌, refl, sym, ◌∙◌}
-use borrow.Author.Rules.{rules}
-use Prim.Native.Nat.{◌+◌, ◌*◌, ◌≤◌}
-use lib.ListN.{length}
-use Rattle.mentions.specs.Nodes.{nodes_have, have_none, have_here, have_next}
+use mathlib.Core.Path.{refl, sym, ◌∙◌}
+use Rattle.mentions.specs.Nodes.{have_none, have_here, have_next}
 use Rattle.mentions.proofs.nodes_have.Goals as goal
 
 pub loop-left-init : goal.loop-left-init

@@ -1,9 +1,7 @@
-use native.Mathlib.Omega.{arith}
-use mathlib.Core.Path.{◌≡◌, refl, sym, ◌∙◌}
-use borrow.Author.Rules.{rules}
+use mathlib.Core.Path.{◌≡◌}
 use Prim.Native.Nat.{◌+◌, ◌*◌, ◌≤◌}
 use lib.ListN.{length}
-use Rattle.mentions.specs.Nodes.{nodes_have, have_none, have_here, have_next}
+use Rattle.mentions.specs.Nodes.{nodes_have}
 use Rattle.mentions.proofs.nodes_have.Given as goal
 
 abbrev pub invariant-loop-left : goal.invariant-loop-left

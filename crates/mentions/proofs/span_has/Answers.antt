@@ -1,7 +1,6 @@
 use native.Mathlib.Omega.{arith}
 use Prim.Native.Nat.{◌-◌, ◌/◌}
 use Rattle.mentions.specs.Nodes.{have_none}
-use borrow.Author.Rules.{rules}
 use Rattle.mentions.proofs.span_has.Goals as goal
 
 pub returns-then-e-b : goal.returns-then-e-b

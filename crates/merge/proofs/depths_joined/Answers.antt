@@ -4,7 +4,6 @@ use Rattle.joining.specs.Lent.{lent}
 use Rattle.rules.specs.Merge.{merge_depths}
 use Prim.Native.Nat.{◌+◌, ◌-◌}
 use native.Mathlib.Omega.{arith}
-use borrow.Author.Rules.{rules}
 use Rattle.merge.proofs.depths_joined.Goals as goal
 
 pub returns : goal.returns

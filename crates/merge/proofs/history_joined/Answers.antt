@@ -6,7 +6,6 @@ use Rattle.merge.specs.Regions.{all_front}
 use Rattle.packing.specs.Replace.{replaced}
 use Prim.Native.Nat.{◌+◌, ◌-◌}
 use native.Mathlib.Omega.{arith}
-use borrow.Author.Rules.{rules}
 use Rattle.merge.proofs.history_joined.Goals as goal
 
 pub returns : goal.returns

@@ -1,7 +1,6 @@
 -- The pair alone at the end of its room, then all pairs, then the depths.
 use Rattle.merge.specs.Merged.{first_stacked, merged_made}
 use Rattle.sheets.specs.Form.{limits_of}
-use borrow.Author.Rules.{rules}
 use Rattle.merge.proofs.merge.Goals as goal
 
 pub merge_all-requires : goal.merge_all-requires

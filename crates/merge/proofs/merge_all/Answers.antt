@@ -1,6 +1,5 @@
 -- The pairs that are left give what all would; keys and pairs together become fewer.
-use borrow.Author.Rules.{rules}
-use Rattle.merge.specs.Next.{Merging, remaining, merging_start, merging_next, merging_less, merging_end}
+use Rattle.merge.specs.Next.{merging_start, merging_next, merging_less, merging_end}
 use Rattle.sheets.specs.Form.{limits_of}
 use native.Mathlib.Omega.{arith}
 use mathlib.Core.Path.{sym, ◌∙◌}

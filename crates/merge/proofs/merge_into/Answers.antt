@@ -5,7 +5,6 @@ use lib.ListN.{length-set}
 use Rattle.renaming.specs.Order.{Sorted}
 use Rattle.sheets.specs.Form.{limits_of}
 use Rattle.merge.specs.Into.{keys₁, into_made}
-use borrow.Author.Rules.{rules}
 use Rattle.merge.proofs.merge_into.Goals as goal
 
 pub join_facts-left-requires : goal.join_facts-left-requires

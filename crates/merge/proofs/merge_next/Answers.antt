@@ -2,7 +2,6 @@
 use Rattle.merge.specs.Next.{next_same, next_into}
 use Rattle.sheets.specs.Form.{limits_of}
 use native.Mathlib.Omega.{arith}
-use borrow.Author.Rules.{rules}
 use Rattle.merge.proofs.merge_next.Goals as goal
 
 pub returns-then-x-y : goal.returns-then-x-y

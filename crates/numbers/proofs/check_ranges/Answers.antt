@@ -1,11 +1,8 @@
 -- What is left to read gives the answer of the whole row.
-use Rattle.numbers.specs.Loops.{left, left_all, left_next, left_refused, left_end, value_next, value_refused}
-use Rattle.rules.specs.Reading.{many, ranged}
-use Rattle.numbers.specs.Answers.{checked}
-use Prim.Native.Nat.{◌≤◌, ◌-◌}
-use borrow.Author.Rules.{rules}
+use Rattle.numbers.specs.Loops.{left_all, left_next, left_refused, left_end, value_next, value_refused}
+use Rattle.rules.specs.Reading.{ranged}
 use native.Mathlib.Omega.{arith}
-use mathlib.Core.Path.{◌≡◌, sym, ◌∙◌}
+use mathlib.Core.Path.{sym, ◌∙◌}
 use Rattle.numbers.proofs.check_ranges.Goals as goal
 
 pub loop-i-init : goal.loop-i-init

@@ -1,11 +1,9 @@
 -- What is left to read gives the answer of the whole row.
-use Rattle.numbers.specs.Loops.{left, left_all, left_next, left_refused, left_end, value_next, value_refused}
+use Rattle.numbers.specs.Loops.{left}
 use Rattle.rules.specs.Reading.{many, ranged}
 use Rattle.numbers.specs.Answers.{checked}
 use Prim.Native.Nat.{◌≤◌, ◌-◌}
-use borrow.Author.Rules.{rules}
-use native.Mathlib.Omega.{arith}
-use mathlib.Core.Path.{◌≡◌, sym, ◌∙◌}
+use mathlib.Core.Path.{◌≡◌}
 use Rattle.numbers.proofs.check_ranges.Given as goal
 
 abbrev pub invariant-loop-i : goal.invariant-loop-i

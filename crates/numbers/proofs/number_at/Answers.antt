@@ -6,7 +6,6 @@ use Rattle.rules.specs.Reading.{number}
 use borrow.Author.Tests.{le-leb, lt-leb}
 use Rattle.numbers.specs.Answers.{value}
 use native.Mathlib.Omega.{arith}
-use borrow.Author.Rules.{rules}
 use Rattle.numbers.proofs.number_at.Goals as goal
 
 pub returns-then-rest-lt2 : goal.returns-then-rest-lt2

@@ -4,7 +4,6 @@ use Rattle.rules.specs.Reading.{number, declared, and_then}
 use borrow.Author.Tests.{lt-ltb, le-ltb}
 use Rattle.numbers.specs.Answers.{value, value_is, value_fault}
 use mathlib.Core.Path.{sym, ◌∙◌}
-use borrow.Author.Rules.{rules}
 use Rattle.numbers.proofs.read_declared.Goals as goal
 
 pub returns-then-x-count : goal.returns-then-x-count

@@ -5,7 +5,6 @@ use Rattle.rules.specs.Reading.{mark_byte}
 use borrow.Author.Tests.{lt-ltb, le-ltb, eq-eqb, ne_eqb}
 use Rattle.numbers.specs.Answers.{value}
 use mathlib.Core.Path.{sym, ◌∙◌}
-use borrow.Author.Rules.{rules}
 use Rattle.numbers.proofs.read_mark.Goals as goal
 
 pub returns-then-byte-letter : goal.returns-then-byte-letter

@@ -4,7 +4,6 @@ use Rattle.rules.specs.Reading.{number, ranged, and_then}
 use borrow.Author.Tests.{le-leb, lt-leb}
 use Rattle.numbers.specs.Answers.{value, value_is, value_fault}
 use mathlib.Core.Path.{sym, ◌∙◌}
-use borrow.Author.Rules.{rules}
 use Rattle.numbers.proofs.read_ranged.Goals as goal
 
 pub returns-then-x-low : goal.returns-then-x-low

@@ -4,7 +4,6 @@ use Rattle.rules.specs.Reading.{number, version, and_then}
 use borrow.Author.Tests.{eq-eqb, ne_eqb}
 use Rattle.numbers.specs.Answers.{value, value_is, value_fault}
 use mathlib.Core.Path.{sym, ◌∙◌}
-use borrow.Author.Rules.{rules}
 use Rattle.numbers.proofs.read_version.Goals as goal
 
 pub returns-then-x-eq1 : goal.returns-then-x-eq1

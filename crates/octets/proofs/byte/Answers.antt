@@ -1,7 +1,6 @@
 use mathlib.Core.Path.{sym}
 use native.Mathlib.Omega.{arith}
 use lib.ListN.{get_or-eq_default}
-use borrow.Author.Rules.{rules}
 use Rattle.octets.proofs.byte.Goals as goal
 
 pub overflow_cast-result : goal.overflow_cast-result

@@ -1,10 +1,8 @@
-use Prim.Native.Nat.{◌≤◌, ◌-◌, ◌+◌}
-use mathlib.Core.Path.{◌≡◌, refl}
+use Prim.Native.Nat.{◌≤◌, ◌-◌}
+use mathlib.Core.Path.{◌≡◌}
 use mathlib.Core.List.{◌++◌}
-use native.Mathlib.Omega.{arith}
-use borrow.Author.Rules.{rules}
-use lib.ListN.{length, drop, length-set}
-use Rattle.octets.specs.Words.{numbers_at, numbers_set}
+use lib.ListN.{length, drop}
+use Rattle.octets.specs.Words.{numbers_at}
 use Rattle.octets.proofs.load_words.Given as goal
 
 abbrev pub invariant-loop-i : goal.invariant-loop-i

@@ -3,7 +3,6 @@ use native.Mathlib.Numerals.{add-one}
 use lib.ListN.{get_or-eq_default}
 use Prim.Native.Nat.{suc}
 use Rattle.rules.specs.Reading.{num}
-use borrow.Author.Rules.{rules}
 use Rattle.octets.proofs.num16.Goals as goal
 
 pub returns-then-at-s : goal.returns-then-at-s

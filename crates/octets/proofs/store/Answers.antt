@@ -4,7 +4,6 @@ use lib.ListN.{length-set}
 use lib.Seq.{sets-eq}
 use Rattle.octets.specs.Patch.{patched}
 use Rattle.octets.specs.Words.{octets}
-use borrow.Author.Rules.{rules}
 use Rattle.octets.proofs.store.Goals as goal
 
 pub bounds-s-at-2 : goal.bounds-s-at-2

@@ -1,11 +1,8 @@
-use Prim.Native.Nat.{◌≤◌, ◌-◌, ◌+◌}
-use mathlib.Core.Path.{◌≡◌, refl, sym, ◌∙◌}
-use native.Mathlib.Omega.{arith}
-use borrow.Author.Rules.{rules}
+use Prim.Native.Nat.{◌≤◌, ◌-◌}
+use mathlib.Core.Path.{◌≡◌}
 use lib.ListN.{length, take}
-use lib.Seq.{length-take-le}
-use Rattle.octets.specs.Patch.{written, written_none, written_more, written_all}
-use Rattle.octets.specs.Words.{octets, octets_length}
+use Rattle.octets.specs.Patch.{written}
+use Rattle.octets.specs.Words.{octets}
 use Rattle.octets.proofs.store_words.Given as goal
 
 abbrev pub invariant-loop-i : goal.invariant-loop-i

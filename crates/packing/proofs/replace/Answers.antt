@@ -1,5 +1,4 @@
 use Rattle.packing.specs.Replace.{replaced}
-use borrow.Author.Rules.{rules}
 use Rattle.packing.proofs.replace.Goals as goal
 
 pub returns : goal.returns

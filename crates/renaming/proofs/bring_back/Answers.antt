@@ -1,8 +1,6 @@
 use mathlib.Core.Path.{refl}
-use Prim.Native.Nat.{◌+◌}
 use native.Mathlib.Omega.{arith}
-use Rattle.renaming.specs.Bringing.{last_above, Bringing, bringing_start, bringing_up, bringing_back, bringing_end}
-use borrow.Author.Rules.{rules}
+use Rattle.renaming.specs.Bringing.{last_above, bringing_start, bringing_up, bringing_back, bringing_end}
 use Rattle.renaming.proofs.bring_back.Goals as goal
 
 pub loop-j-init : goal.loop-j-init

@@ -1,8 +1,5 @@
-use mathlib.Core.Path.{refl}
 use Prim.Native.Nat.{◌+◌}
-use native.Mathlib.Omega.{arith}
-use Rattle.renaming.specs.Bringing.{last_above, Bringing, bringing_start, bringing_up, bringing_back, bringing_end}
-use borrow.Author.Rules.{rules}
+use Rattle.renaming.specs.Bringing.{Bringing}
 use Rattle.renaming.proofs.bring_back.Given as goal
 
 abbrev pub invariant-loop-j : goal.invariant-loop-j

@@ -1,5 +1,4 @@
 use Rattle.renaming.specs.Bringing.{last_none, last_some}
-use borrow.Author.Rules.{rules}
 use Rattle.renaming.proofs.last_of.Goals as goal
 
 pub returns-then-i-eq0 : goal.returns-then-i-eq0

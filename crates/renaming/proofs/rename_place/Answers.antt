@@ -1,6 +1,5 @@
 use native.Mathlib.Omega.{arith}
 use Rattle.renaming.specs.Table.{stayed_sorted, gone_sorted, place_through}
-use borrow.Author.Rules.{rules}
 use Rattle.renaming.proofs.rename_place.Goals as goal
 
 pub bring_back-requires : goal.bring_back-requires

@@ -1,6 +1,5 @@
 use native.Mathlib.Omega.{arith}
 use Rattle.renaming.specs.Table.{through_sorted, places_through}
-use borrow.Author.Rules.{rules}
 use Rattle.renaming.proofs.rename_table.Goals as goal
 
 pub rename_place-requires : goal.rename_place-requires

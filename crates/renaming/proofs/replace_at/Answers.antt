@@ -1,6 +1,5 @@
 use native.Mathlib.Omega.{arith}
 use Rattle.renaming.specs.Place.{place_fits, at_there, at_other}
-use borrow.Author.Rules.{rules}
 use Rattle.renaming.proofs.replace_at.Goals as goal
 
 pub overflow_mul-result : goal.overflow_mul-result

@@ -1,8 +1,6 @@
 use Prim.Native.Nat.{◌-◌}
-use native.Mathlib.Omega.{arith}
 use Rattle.renaming.specs.Place.{replaced_at}
-use Rattle.renaming.specs.Parting.{Parting, parting_start, parting_goes, parting_stays, parting_end}
-use borrow.Author.Rules.{rules}
+use Rattle.renaming.specs.Parting.{Parting}
 use Rattle.renaming.proofs.set_apart.Given as goal
 
 abbrev pub invariant-loop-i : goal.invariant-loop-i

@@ -2,7 +2,6 @@ use Prim.Native.Nat.{min}
 use mathlib.Core.Path.{◌∙◌, ap}
 use Rattle.sheets.specs.Form.{limits_of}
 use Rattle.sheets.specs.Load.{counted}
-use borrow.Author.Rules.{rules}
 use Rattle.sheets.proofs.load_counts.Goals as goal
 
 pub returns : goal.returns

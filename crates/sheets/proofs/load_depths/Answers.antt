@@ -6,7 +6,6 @@ use borrow.Rule.Slice.PartMut.{mid_len}
 use lib.ListN.{drop, length-drop}
 use lib.Seq.{length-take-le}
 use Rattle.sheets.specs.Load.{region_lent}
-use borrow.Author.Rules.{rules}
 use Rattle.sheets.proofs.load_depths.Goals as goal
 
 pub returns : goal.returns

@@ -1,6 +1,5 @@
 use Rattle.sheets.specs.Form.{limits_of}
 use Rattle.sheets.specs.Load.{loaded}
-use borrow.Author.Rules.{rules}
 use Rattle.sheets.proofs.load_sheet.Goals as goal
 
 pub returns : goal.returns

@@ -5,7 +5,6 @@ use lib.ListN.{length}
 use borrow.Rule.Slice.PartMut.{mid_len}
 use Rattle.octets.specs.Words.{numbers_length}
 use Rattle.sheets.specs.Load.{region_lent}
-use borrow.Author.Rules.{rules}
 use Rattle.sheets.proofs.load_table.Goals as goal
 
 pub returns : goal.returns

@@ -3,7 +3,6 @@ use mathlib.Core.List.{◌∷◌, []}
 use lib.ListN.{length-set}
 use lib.Seq.{sets-eq}
 use Rattle.octets.specs.Patch.{patched}
-use borrow.Author.Rules.{rules}
 use Rattle.sheets.proofs.set_counts.Goals as goal
 
 pub bounds-w-1 : goal.bounds-w-1

@@ -1,9 +1,6 @@
-use Prim.Native.Nat.{◌≤◌, ◌-◌, ◌+◌}
 use mathlib.Core.Path.{◌≡◌, refl}
-use mathlib.Core.List.{◌++◌}
 use native.Mathlib.Omega.{arith}
-use borrow.Author.Rules.{rules}
-use lib.ListN.{length, drop, length-set}
+use lib.ListN.{length-set}
 use Rattle.base.specs.Lists.{from}
 use Rattle.sheets.specs.Load.{from_set}
 use Rattle.sheets.proofs.set_history.Goals as goal

@@ -4,7 +4,6 @@ use native.Mathlib.Omega.{arith}
 use lib.ListN.{length}
 use borrow.Rule.Slice.PartMut.{mid_len}
 use Rattle.sheets.specs.Load.{from_length, region_lent}
-use borrow.Author.Rules.{rules}
 use Rattle.sheets.proofs.start_history.Goals as goal
 
 pub returns : goal.returns

@@ -4,7 +4,6 @@ use Rattle.texts.specs.Names.{names_in}
 use lib.ListN.{get_or}
 use mathlib.Core.Path.{sym, ap, ◌∙◌}
 use native.Mathlib.Omega.{arith}
-use borrow.Author.Rules.{rules}
 use Rattle.skips.proofs.below.Goals as goal
 
 pub returns-then-num16-eq2 : goal.returns-then-num16-eq2

@@ -3,7 +3,6 @@ use Rattle.skips.specs.Parts.{disjunct_short, disjunct_cut, disjunct_end}
 use Rattle.texts.specs.Names.{names_in}
 use lib.ListN.{length}
 use native.Mathlib.Omega.{arith}
-use borrow.Author.Rules.{rules}
 use Rattle.skips.proofs.skip_disjunct.Goals as goal
 
 pub returns-then-text-at-lt2 : goal.returns-then-text-at-lt2

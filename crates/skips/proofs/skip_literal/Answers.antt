@@ -4,7 +4,6 @@ use Rattle.texts.specs.Names.{names_in}
 use lib.ListN.{length, get_or}
 use native.Mathlib.Omega.{arith}
 use mathlib.Core.Path.{sym, ap, ◌∙◌}
-use borrow.Author.Rules.{rules}
 use Rattle.skips.proofs.skip_literal.Goals as goal
 
 pub returns-then-text-at-lt4 : goal.returns-then-text-at-lt4

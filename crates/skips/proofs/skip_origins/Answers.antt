@@ -1,11 +1,9 @@
 -- What is left of them after each turn.
-use Prim.Native.Nat.{◌≤◌, ◌-◌}
 use native.Mathlib.Omega.{arith}
-use borrow.Author.Rules.{rules}
 use lib.ListN.{length}
 use Rattle.texts.specs.Names.{names_in}
 use Rattle.texts.specs.Text.{OriginText}
-use Rattle.skips.specs.Rest.{Within, Left, left_start, left_next, left_end}
+use Rattle.skips.specs.Rest.{left_start, left_next, left_end}
 use Rattle.skips.specs.Parts.{origin_on}
 use Rattle.skips.proofs.skip_origins.Goals as goal
 

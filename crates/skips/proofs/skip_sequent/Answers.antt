@@ -3,7 +3,6 @@ use Rattle.skips.specs.Parts.{sequent_short, sequent_cut, sequent_end}
 use Rattle.texts.specs.Names.{names_in}
 use lib.ListN.{length}
 use native.Mathlib.Omega.{arith}
-use borrow.Author.Rules.{rules}
 use Rattle.skips.proofs.skip_sequent.Goals as goal
 
 pub returns-then-text-at-lt4 : goal.returns-then-text-at-lt4

@@ -1,12 +1,9 @@
 -- What is left of them after each turn.
 use Prim.Native.Nat.{◌≤◌, ◌-◌}
-use native.Mathlib.Omega.{arith}
-use borrow.Author.Rules.{rules}
 use lib.ListN.{length}
 use Rattle.texts.specs.Names.{names_in}
 use Rattle.texts.specs.Text.{SequentText}
-use Rattle.skips.specs.Rest.{Within, Left, left_start, left_next, left_end}
-use Rattle.skips.specs.Parts.{sequent_on}
+use Rattle.skips.specs.Rest.{Within, Left}
 use Rattle.skips.proofs.skip_sequents.Given as goal
 
 abbrev pub invariant-loop-i : goal.invariant-loop-i

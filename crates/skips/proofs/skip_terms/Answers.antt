@@ -1,11 +1,7 @@
 -- The terms still to come are counted; each turn reads one and adds those directly below it.
 use native.Mathlib.Omega.{arith}
-use borrow.Author.Rules.{rules}
-use Prim.Native.Nat.{◌≤◌, ◌-◌, ◌+◌, ◌*◌}
-use lib.ListN.{length}
 use Rattle.texts.specs.Names.{names_in}
-use Rattle.skips.specs.Rest.{Within}
-use Rattle.skips.specs.Terms.{Awaits, awaits_next, awaits_short, awaits_end}
+use Rattle.skips.specs.Terms.{awaits_next, awaits_short, awaits_end}
 use Rattle.skips.proofs.skip_terms.Goals as goal
 
 pub returns-then-text-p-lt4 : goal.returns-then-text-p-lt4

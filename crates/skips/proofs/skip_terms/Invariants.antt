@@ -1,11 +1,9 @@
 -- The terms still to come are counted; each turn reads one and adds those directly below it.
-use native.Mathlib.Omega.{arith}
-use borrow.Author.Rules.{rules}
 use Prim.Native.Nat.{◌≤◌, ◌-◌, ◌+◌, ◌*◌}
 use lib.ListN.{length}
 use Rattle.texts.specs.Names.{names_in}
 use Rattle.skips.specs.Rest.{Within}
-use Rattle.skips.specs.Terms.{Awaits, awaits_next, awaits_short, awaits_end}
+use Rattle.skips.specs.Terms.{Awaits}
 use Rattle.skips.proofs.skip_terms.Given as goal
 
 abbrev pub invariant-loop-left : goal.invariant-loop-left

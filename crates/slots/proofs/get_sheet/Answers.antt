@@ -2,7 +2,6 @@ use Prim.Native.Nat.{◌+◌, ◌-◌, ◌*◌}
 use mathlib.Core.Path.{◌≡◌}
 use native.Mathlib.Omega.{arith}
 use Rattle.rules.specs.Image.{part}
-use borrow.Author.Rules.{rules}
 use Rattle.slots.proofs.get_sheet.Goals as goal
 
 pub returns : goal.returns

@@ -1,7 +1,6 @@
 use Prim.Native.Nat.{◌+◌, ◌*◌}
 use native.Mathlib.Omega.{arith}
 use Rattle.octets.specs.Patch.{patched_lent}
-use borrow.Author.Rules.{rules}
 use Rattle.slots.proofs.put_sheet.Goals as goal
 
 pub returns : goal.returns

@@ -8,7 +8,6 @@ use Rattle.octets.specs.Patch.{patched}
 use Rattle.octets.specs.Words.{octet}
 use Rattle.sheets.specs.Parts.{part_front}
 use Rattle.slots.specs.Store.{depth_bytes}
-use borrow.Author.Rules.{rules}
 use Rattle.slots.proofs.store_depths.Goals as goal
 
 pub returns : goal.returns

@@ -4,7 +4,6 @@ use lib.Seq.{sets-eq}
 use Rattle.rules.specs.Image.{word}
 use Rattle.octets.specs.Patch.{patched}
 use Rattle.slots.specs.Store.{head_bytes}
-use borrow.Author.Rules.{rules}
 use Rattle.slots.proofs.store_head.Goals as goal
 
 pub bounds-s-1 : goal.bounds-s-1

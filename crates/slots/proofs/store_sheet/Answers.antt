@@ -1,6 +1,5 @@
 use Rattle.sheets.specs.Form.{limits_of}
 use Rattle.slots.specs.Store.{stored}
-use borrow.Author.Rules.{rules}
 use Rattle.slots.proofs.store_sheet.Goals as goal
 
 pub returns : goal.returns

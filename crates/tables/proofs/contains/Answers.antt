@@ -1,5 +1,4 @@
 use Rattle.tables.specs.Ways.{past, other, seen_found, seen_none}
-use borrow.Author.Rules.{rules}
 use Rattle.tables.proofs.contains.Goals as goal
 
 pub returns-then-at-n : goal.returns-then-at-n

@@ -1,10 +1,8 @@
 -- Entries above i are moved.
-use Prim.Native.Nat.{◌≤◌, ◌-◌}
 use mathlib.Core.Path.{◌≡◌, refl, sym}
 use native.Mathlib.Omega.{arith}
-use borrow.Author.Rules.{rules}
-use lib.ListN.{length, length-set}
-use Rattle.tables.specs.Shift.{opened, opened_none, opened_more, opened_set}
+use lib.ListN.{length-set}
+use Rattle.tables.specs.Shift.{opened_none, opened_more, opened_set}
 use Rattle.tables.proofs.insert.Goals as goal
 
 pub loop-i-init : goal.loop-i-init

@@ -1,6 +1,5 @@
 use native.Mathlib.Omega.{arith}
 use Rattle.tables.specs.Ways.{past, other, looked_found, looked_none}
-use borrow.Author.Rules.{rules}
 use Rattle.tables.proofs.look.Goals as goal
 
 pub returns-then-at-n : goal.returns-then-at-n

@@ -1,6 +1,5 @@
 use native.Mathlib.Omega.{arith}
 use Rattle.tables.specs.Last.{looked_empty, looked_end, looked_last}
-use borrow.Author.Rules.{rules}
 use Rattle.tables.proofs.look_last.Goals as goal
 
 pub returns-then-n-eq0 : goal.returns-then-n-eq0

@@ -1,6 +1,5 @@
 use native.Mathlib.Omega.{arith}
 use Rattle.tables.specs.Ways.{put_there, put_gap, put_last, other}
-use borrow.Author.Rules.{rules}
 use Rattle.tables.proofs.put.Goals as goal
 
 pub returns-then-at-n : goal.returns-then-at-n

@@ -1,6 +1,5 @@
 use native.Mathlib.Omega.{arith}
 use Rattle.tables.specs.Last.{put_empty, put_end, put_over_last}
-use borrow.Author.Rules.{rules}
 use Rattle.tables.proofs.put_last.Goals as goal
 
 pub returns-then-n-eq0 : goal.returns-then-n-eq0

@@ -1,11 +1,10 @@
 -- Halving: the place stays between the two ends.
-use Prim.Native.Nat.{◌≤◌, ◌-◌, ◌+◌, ◌/◌}
+use Prim.Native.Nat.{◌-◌, ◌+◌, ◌/◌}
 use mathlib.Core.Path.{◌≡◌}
 use native.Mathlib.Omega.{arith}
-use borrow.Author.Rules.{rules}
 use lib.ListN.{length, take}
 use lib.Seq.{length-take-le}
-use Rattle.tables.specs.Table.{Between, rank_le, upper_half, lower_half}
+use Rattle.tables.specs.Table.{rank_le, upper_half, lower_half}
 use Rattle.tables.proofs.rank.Goals as goal
 
 pub loop-lo-init : goal.loop-lo-init

@@ -1,11 +1,7 @@
 -- Halving: the place stays between the two ends.
-use Prim.Native.Nat.{◌≤◌, ◌-◌, ◌+◌, ◌/◌}
-use mathlib.Core.Path.{◌≡◌}
-use native.Mathlib.Omega.{arith}
-use borrow.Author.Rules.{rules}
-use lib.ListN.{length, take}
-use lib.Seq.{length-take-le}
-use Rattle.tables.specs.Table.{Between, rank_le, upper_half, lower_half}
+use Prim.Native.Nat.{◌≤◌, ◌-◌}
+use lib.ListN.{take}
+use Rattle.tables.specs.Table.{Between}
 use Rattle.tables.proofs.rank.Given as goal
 
 abbrev pub invariant-loop-lo : goal.invariant-loop-lo

@@ -1,12 +1,11 @@
 -- The levels fall; what is left of the arguments gives the answer of all.
 use Rattle.terms.specs.Head.{args_at, term_none, term_step}
-use Rattle.numbers.specs.Loops.{left as rest, left_all, left_next, left_refused, left_end}
+use Rattle.numbers.specs.Loops.{left_all, left_next, left_refused, left_end}
 use Rattle.rules.specs.Reading.{term_at}
-use Prim.Native.Nat.{ℕ, ◌<◌, ◌≤◌, ◌-◌}
+use Prim.Native.Nat.{◌-◌}
 use Rattle.texts.specs.Names.{names_in}
-use borrow.Author.Rules.{rules}
 use native.Mathlib.Omega.{arith}
-use mathlib.Core.Path.{◌≡◌, sym, ◌∙◌}
+use mathlib.Core.Path.{sym, ◌∙◌}
 use Rattle.terms.proofs.+check_term.Goals as goal
 
 pub returns-then-left-eq0 : goal.returns-then-left-eq0

@@ -6,7 +6,6 @@ use Rattle.texts.specs.Names.{names_in}
 use lib.ListN.{length}
 use native.Mathlib.Omega.{arith}
 use mathlib.Core.Path.{sym, ap, ◌∙◌}
-use borrow.Author.Rules.{rules}
 use Rattle.terms.proofs.application.Goals as goal
 
 pub returns-then-deeper-gt0 : goal.returns-then-deeper-gt0

@@ -1,7 +1,6 @@
 -- By the two cases of the number.
 use Rattle.terms.specs.Head.{leaf_of}
 use mathlib.Core.Path.{sym, ap}
-use borrow.Author.Rules.{rules}
 use Rattle.terms.proofs.leaf.Goals as goal
 
 pub returns-in-Is : goal.returns-in-Is

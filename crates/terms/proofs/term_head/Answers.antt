@@ -4,7 +4,6 @@ use Rattle.rules.specs.Reading.{number, declared}
 use Rattle.numbers.specs.Answers.{value, value_is, value_fault}
 use Rattle.texts.specs.Names.{names_in}
 use mathlib.Core.Path.{sym, ap, ◌∙◌}
-use borrow.Author.Rules.{rules}
 use Rattle.terms.proofs.term_head.Goals as goal
 
 pub returns-then-kind-eq0 : goal.returns-then-kind-eq0

@@ -3,7 +3,6 @@ use Prim.Native.Nat.{suc}
 use native.Mathlib.Omega.{arith}
 use native.Mathlib.Numerals.{add-one}
 use lib.ListN.{get_or-eq_default}
-use borrow.Author.Rules.{rules}
 use Rattle.rules.specs.Reading.{num}
 use Rattle.words.proofs.num16.Goals as goal
 

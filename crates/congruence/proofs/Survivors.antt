@@ -11,9 +11,10 @@ use Rattle.rules.specs.Bound.{History}
 use Rattle.rules.specs.Merge.{Pair, lowered, merge}
 use Rattle.laws.specs.Tables.{KeysRise}
 use Rattle.laws.specs.MergeBy.{Orders, EachReorders, merge_by}
-use Rattle.laws.specs.MergeByLaws.{merge_has}
+use Rattle.laws.proofs.MergeByLaws.{merge_has}
 use Rattle.soundness.specs.Tools.{in_has, find_in}
-use Rattle.congruence.specs.Forced.{Forced, alike_args, Survives, one_survivor, survivor_stays, survivor_least}
+use Rattle.congruence.specs.Forced.{Forced, alike_args, Survives}
+use Rattle.congruence.proofs.Forced.{one_survivor, survivor_stays, survivor_least}
 use Rattle.congruence.specs.Images.{key_image, entry_image, fact_image, Images, images_are}
 use Rattle.congruence.specs.Rounds.{merge_by_ends, merge_by_after}
 use Rattle.congruence.specs.Way.{There, WayTo, way_skip, way_round, way_start}

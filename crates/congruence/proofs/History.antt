@@ -19,8 +19,8 @@ use Rattle.soundness.specs.Neat.{Neat}
 use Rattle.congruence.specs.Forced.{Congruence}
 use Rattle.congruence.specs.Images.{entry_image}
 use Rattle.congruence.specs.Rounds.{merge_after}
-use Rattle.congruence.specs.Survivors.{survivor, Smallest, survivor_smallest}
-use Rattle.congruence.specs.Merged.{Merged, merge_merged}
+use Rattle.congruence.proofs.Survivors.{survivor, Smallest, survivor_smallest}
+use Rattle.congruence.proofs.Merged.{Merged, merge_merged}
 
 pub record Living (now : History) (m : Model) : Type 0 where
   pub twice : (e : ℕ) → now (now e) ≡ now e

@@ -11,15 +11,16 @@ use Rattle.rules.specs.Bound.{History}
 use Rattle.rules.specs.Merge.{Pair, lowered, merge}
 use Rattle.laws.specs.Tables.{KeysRise, FactsRise}
 use Rattle.laws.specs.MergeBy.{Orders, EachReorders, merge_into_by, merge_by}
-use Rattle.laws.specs.MergeByLaws.{merge_has}
+use Rattle.laws.proofs.MergeByLaws.{merge_has}
 use Rattle.soundness.specs.Tools.{known_yielded}
 use Rattle.soundness.specs.Join.{merge_by_linked}
 use Rattle.soundness.specs.Neat.{Neat, merge_by_small, merge_by_listed}
-use Rattle.congruence.specs.Forced.{Survives, survivors_unique, survives_swap}
+use Rattle.congruence.specs.Forced.{Survives}
+use Rattle.congruence.proofs.Forced.{survivors_unique, survives_swap}
 use Rattle.congruence.specs.Images.{entry_image, fact_image, Images}
 use Rattle.congruence.specs.Rising.{keys_unique, facts_unique}
 use Rattle.congruence.specs.Rounds.{after_history, merge_by_ends, merge_by_after, merge_after}
-use Rattle.congruence.specs.Survivors.{way_survives, way_keys, way_facts, merge_by_way, survivor}
+use Rattle.congruence.proofs.Survivors.{way_survives, way_keys, way_facts, merge_by_way, survivor}
 use Rattle.congruence.specs.Depths.{LeastDepths, depths_unique, neat_depths}
 
 -- ---- the law
