@@ -27,13 +27,13 @@ built=$root/target/calls
 mkdir -p "$built"
 
 # The archive: the one that NIDRAGHERA_ARCHIVE names, or the proved one, made again when a crate has changed since.
-archive=${NIDRAGHERA_ARCHIVE:-$root/target/staticlib/libcalls.a}
+archive=${NIDRAGHERA_ARCHIVE:-$root/crates/calls/out/libcalls.a}
 if [ -n "${NIDRAGHERA_ARCHIVE:-}" ]; then
     echo "calls: not the proved archive, but $archive"
-elif [ ! -f "$archive" ] || [ -n "$(find "$root/crates" "$root/crates.txt" -newer "$archive" -print -quit)" ]; then
+elif [ ! -f "$archive" ] || [ -n "$(find "$root/crates" "$root/crates.txt" -name out -prune -o -type f -newer "$archive" -print -quit)" ]; then
     command -v rt >/dev/null || complain "the archive has to be built, and the toolchain's command rt is not on the path"
-    (cd "$root" && rt staticlib calls) >"$built/archive.log" 2>&1 ||
-        { tail -n 20 "$built/archive.log" >&2; complain "rt staticlib calls fails"; }
+    (cd "$root/crates/calls" && rt lib) >"$built/archive.log" 2>&1 ||
+        { tail -n 20 "$built/archive.log" >&2; complain "rt lib fails in crates/calls"; }
 fi
 [ -f "$archive" ] || complain "there is no archive $archive"
 names=$("${compiler%gcc}nm" "$archive" 2>/dev/null) || complain "$archive is no archive"

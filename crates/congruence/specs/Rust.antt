@@ -15,7 +15,7 @@
 -- So it is merging by an order (laws.MergeBy): keys are filed in the order of the keys before, and pairs wait as `refile` leaves
 -- them, the newest first. That pairs of one element are left out, and others are not renamed but looked up, bears on no round: the
 -- child's history takes each element of the sheet to itself (History). The Rust's loops count nothing; here they have a number of
--- turns, and more of them would change nothing (rounds-same, Lowering.rust-lowers).
+-- turns, and more of them would change nothing (rounds_same, Lowering.rust_lowers).
 use Rattle.std.specs.Prelude.{ℕ, zero, suc, ◌+◌, min, max, length, eqb}
 use mathlib.Core.List.{List, [], ◌∷◌, map}
 use Rattle.base.specs.Branch.{if, case_o}

@@ -1,6 +1,6 @@
 -- Of a sound sheet the clause of "fits" that elements are given things says no more than that keys hold: each element has a name
 -- (soundness.Depth), and where keys hold, what a name leads to is given what the name is in the arrangement, which is a thing.
--- On other sheets the clause counts: fitting.Things.circle-not.
+-- On other sheets the clause counts: fitting.Things.circle_not.
 use Rattle.std.proofs.Common.{sym, subst}
 use Rattle.std.specs.Prelude.{ℕ, List, map, T}
 use Rattle.base.specs.Lists.{All}

@@ -1,5 +1,5 @@
 -- A working form that holds a sound sheet of a book, and what the evaluator answers on its regions.
-use Rattle.std.specs.Prelude.{◌≡◌, ℕ, ◌+◌, ◌-◌, ◌≤◌, List, map, length, get_or, take, drop}
+use Rattle.std.specs.Prelude.{◌≡◌, ℕ, ◌+◌, ◌≤◌, List, map, length, get_or, take, drop}
 use Rattle.std.proofs.Common.{ap, ◌∙◌, subst, arith, length-drop, length-take-le}
 use Rattle.base.specs.Lists.{firsts}
 use Rattle.rules.specs.Book.{Book, rules}

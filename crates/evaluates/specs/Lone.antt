@@ -1,4 +1,4 @@
--- A lone sheet that passed the checks: its book was read, and it is sound for it (rules.Sound.soundLone). Its working form is a basis for the
+-- A lone sheet that passed the checks: its book was read, and it is sound for it (rules.Sound.sound_lone). Its working form is a basis for the
 -- evaluator, which answers for the sheet that the bytes say.
 use Rattle.std.specs.Prelude.{◌≡◌, ℕ, ◌≤◌, ◌<◌, max, Bool, true, length, get_or, T}
 use Rattle.std.proofs.Math.Path.{sym, subst}

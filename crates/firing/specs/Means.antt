@@ -8,7 +8,7 @@ use Rattle.base.specs.Lists.{All, entries}
 use Rattle.base.specs.ListLaws.{all_map, all_append, all_all, map_map, map_append, firsts_all}
 use Rattle.rules.specs.Book.{Origin, Disjunct, Names}
 use Rattle.rules.specs.Sheet.{key, Entry, Model, domain, Limits}
-use Rattle.rules.specs.Look.{elem, witness, origin_meaning, body_meanings, head_meanings}
+use Rattle.rules.specs.Look.{elem, origin_meaning, body_meanings, head_meanings}
 use Rattle.rules.specs.Sound.{declared_as}
 use Rattle.laws.specs.Tables.{KeysRise, FactsRise}
 use Rattle.soundness.specs.Neat.{Neat}

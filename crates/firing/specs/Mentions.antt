@@ -1,6 +1,6 @@
 -- "v = v" is appended where an existential is in no literal. One that is in an observed literal has an element, so a disjunct is
 -- observed just if its literals are and each existential has an element.
-use Rattle.std.specs.Prelude.{◌≡◌, ℕ, suc, ◌+◌, Bool, true, false, ◌&&◌, ◌⊎◌, List, [], ◌∷◌, ◌++◌, length}
+use Rattle.std.specs.Prelude.{◌≡◌, ℕ, suc, Bool, true, false, ◌&&◌, ◌⊎◌, List, [], ◌∷◌, ◌++◌, length}
 use Rattle.std.proofs.Math.Path.{refl, ap}
 use Rattle.std.proofs.Common.{sym, ap₂, ◌∙◌, subst, arith, inl, inr, eqb→eq}
 use Rattle.std.proofs.Math.Option.{Option, none, some}

@@ -1,6 +1,6 @@
 -- Merging with its orders left open: in which order a round files the keys, and in which the pairs then wait. `merge` is merging by
--- one choice of orders (MergeByLaws), and the Rust's is another (congruence.Rust.rust-is-by-order): keys in the order of the keys
--- before, the newest pair first. That the choice does not bear on the sheet is congruence.Sound.sound-merge-any-order.
+-- one choice of orders (MergeByLaws), and the Rust's is another (congruence.Rust.rust_is_by_order): keys in the order of the keys
+-- before, the newest pair first. That the choice does not bear on the sheet is congruence.Sound.sound_merge_any_order.
 use Rattle.std.specs.Prelude.{◌≡◌, ℕ, zero, suc, max, min, List, [], ◌∷◌, map, length, eqb}
 use Rattle.base.specs.Branch.{if}
 use Rattle.base.specs.Lists.{All, Some}

@@ -1,7 +1,7 @@
 // numbers: one number of a book read with its refusals (2, 3, 4, 5, 7), and rows of numbers of one kind.
 // Two enums answer for every reading: a number and the place behind it, or the end of what was read; else a refusal and its place.
 //
-// The reader over the book is `Reader`, a byte slice and an offset. Three thin functions stand on it, each proved by hand over
+// The reader over the book is `Reader`, a byte slice and an offset. Three thin functions stand on it, each proved over
 // `number_at`, which is a plain function: `reader_at` makes a reader, `next` gives the number that it stands at, and `read_number` does
 // one after the other. Only `read_number` calls the two. By it the check of a book reads every number: in this crate `read_ranged`,
 // `read_declared` and `read_version`, and through these `check_ranges` and `check_variables`; in `terms` and `book` the kinds and the

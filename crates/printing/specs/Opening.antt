@@ -1,5 +1,5 @@
 -- What is printed where open refuses, where the fourth byte is not 0, and what is known where the run begins.
-use Rattle.std.specs.Prelude.{◌≡◌, refl, ℕ, zero, ◌+◌, ◌*◌, ◌≤◌, ◌<◌, Bool, true, false, ◌&&◌, length, get_or, drop, T, ltb, eqb}
+use Rattle.std.specs.Prelude.{◌≡◌, refl, ℕ, ◌+◌, ◌*◌, ◌≤◌, ◌<◌, Bool, true, false, ◌&&◌, length, get_or, drop, T, ltb, eqb}
 use Rattle.std.proofs.Math.Path.{sym, ap, ap₂}
 use Rattle.std.proofs.Common.{◌∙◌, subst, arith, ltb→lt, lt-ltb, le-ltb, ne_eqb}
 use Rattle.base.specs.Branch.{if}

@@ -4,12 +4,11 @@ use Rattle.std.proofs.Math.Path.{refl, sym, ap, ap₂}
 use Rattle.std.proofs.Common.{◌∙◌, subst, le_trans, arith}
 use Rattle.std.proofs.Math.Bool.{true, false}
 use mathlib.Core.List.{List, [], ◌∷◌, map}
-use Rattle.std.proofs.Math.Option.{none}
 use Rattle.std.proofs.Math.ListN.{length, length-map}
 use Rattle.std.proofs.Math.Dec.{T}
 use Rattle.base.specs.Lists.{All, any}
 use Rattle.base.specs.ListLaws.{all_all, all_both, all_append, all_take, all_drop}
-use Rattle.rules.specs.Book.{Disjunct, Sequent, Book, completed_disjunct, completed, rules}
+use Rattle.rules.specs.Book.{Disjunct, Sequent, completed_disjunct, completed, rules}
 use Rattle.rules.specs.Reading.{Bytes, num}
 use Rattle.rules.specs.Sheet.{Model, known, limits}
 use Rattle.rules.specs.Fire as fire

@@ -3,7 +3,6 @@ use Rattle.std.specs.Prelude.{◌≡◌, ℕ, ◌+◌, ◌*◌, ◌≤◌, ◌<�
 use Rattle.std.proofs.Common.{sym, ◌∙◌, subst}
 use Rattle.std.proofs.Math.Path.{ap}
 use native.Mathlib.Omega.{arith}
-use Rattle.std.proofs.Math.Option.{some}
 use lib.ListN.{length, get_or, take, drop}
 use Rattle.base.specs.Lists.{All}
 use Rattle.rules.specs.Book.{rules}

@@ -19,7 +19,7 @@ use Rattle.rules.specs.Reading.{Bytes}
 use Rattle.rules.specs.Sheet.{Sheet, blank, limits}
 use Rattle.rules.specs.Pool.{State, sheet_at, freed, changed}
 use Rattle.rules.specs.Step.{lists, list_of, taken}
-use Rattle.rules.specs.Image.{long, pool_head, pool_bytes, sheet_size, part, sheet_in, sheet_bytes, pool_in}
+use Rattle.rules.specs.Image.{pool_head, pool_bytes, sheet_size, part, sheet_in, sheet_bytes, pool_in}
 use Rattle.rules.specs.Sound.{sound}
 use Rattle.rules.specs.Calls.{right_length, TakeOutcome, take_outcome}
 use Rattle.images.specs.Regions.{table_before, table_split, table_set}

@@ -24,7 +24,6 @@ use Rattle.texts.specs.Names.{names_in}
 use Rattle.texts.specs.Text.{count, TermsText, LiteralText}
 use Rattle.texts.specs.Parts.{term_grows, terms_grow}
 use Rattle.look.specs.Shown.{neat_facts_shown, fact_fits}
-use Rattle.look.specs.Answers as look
 use Rattle.look.specs.Digits.{start, top, pack_args, pack_args_lem}
 use Rattle.merge.specs.Merged.{MergedForm}
 use Rattle.sheets.specs.Form.{view_of}

@@ -1,4 +1,3 @@
-use borrow.Author.Rules.{rules}
 use Rattle.sheets.specs.Form.{limits_of}
 use Rattle.adopting.specs.Slots.{base_freed}
 use Rattle.adopting.proofs.free_base.Goals as goal

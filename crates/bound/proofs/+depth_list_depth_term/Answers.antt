@@ -4,8 +4,6 @@ use lib.ListN.{take}
 use Rattle.sheets.specs.Form.{limits_of}
 use Rattle.bound.specs.Ways.{list_end, list_short, list_stopped, list_more, term_known, term_short, term_leaf, term_apply, leaf_good, apply_good}
 use native.Mathlib.Omega.{arith}
-use borrow.Author.Rules.{rules}
-use Prim.Native.Nat.{ℕ, ◌<◌, ◌+◌, ◌*◌, ◌-◌}
 use lib.ListN.{length}
 use Rattle.bound.proofs.+depth_list_depth_term.Goals as goal
 

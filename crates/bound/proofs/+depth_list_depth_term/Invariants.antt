@@ -1,11 +1,4 @@
-use mathlib.Core.Path.{ap}
-use Prim.Native.Nat.{◌%◌}
-use lib.ListN.{take}
-use Rattle.sheets.specs.Form.{limits_of}
-use Rattle.bound.specs.Ways.{list_end, list_short, list_stopped, list_more, term_known, term_short, term_leaf, term_apply, leaf_good, apply_good}
-use native.Mathlib.Omega.{arith}
-use borrow.Author.Rules.{rules}
-use Prim.Native.Nat.{ℕ, ◌<◌, ◌+◌, ◌*◌, ◌-◌}
+use Prim.Native.Nat.{◌+◌, ◌*◌, ◌-◌}
 use lib.ListN.{length}
 use Rattle.bound.proofs.+depth_list_depth_term.Given as goal
 

@@ -3,7 +3,6 @@ use lib.ListN.{take}
 use Rattle.rules.specs.Calls.{bound_of}
 use Rattle.sheets.specs.Form.{limits_of}
 use Rattle.bound.specs.Admitted.{ask_known, ask_short, ask_refused, ask_new}
-use borrow.Author.Rules.{rules}
 use Rattle.bound.proofs.ask.Goals as goal
 
 pub returns-then-admits : goal.returns-then-admits

@@ -4,7 +4,6 @@ use Rattle.sheets.specs.Form.{limits_of}
 use lib.ListN.{take}
 use Rattle.enter.specs.Ways.{head_applied}
 use Rattle.bound.specs.Ways.{head_variable, head_constant}
-use borrow.Author.Rules.{rules}
 use Rattle.bound.proofs.depth_head.Goals as goal
 
 pub returns-then-kind-eq0 : goal.returns-then-kind-eq0

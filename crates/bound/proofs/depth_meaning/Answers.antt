@@ -4,7 +4,6 @@ use Rattle.sheets.specs.Form.{limits_of}
 use Prim.Native.Nat.{◌%◌}
 use Rattle.enter.specs.Args.{depth_bound}
 use Rattle.bound.specs.Seen.{depth_element, depth_large, depth_witness}
-use borrow.Author.Rules.{rules}
 use Rattle.bound.proofs.depth_meaning.Goals as goal
 
 pub returns-then-x-lt256 : goal.returns-then-x-lt256

@@ -3,7 +3,6 @@ use Rattle.sheets.specs.Form.{limits_of}
 use lib.ListN.{take, length-take}
 use lib.Seq.{get_or-take}
 use Rattle.bound.specs.Ways.{variable_past, variable_meant}
-use borrow.Author.Rules.{rules}
 use Rattle.bound.proofs.depth_variable.Goals as goal
 
 pub returns-then-at-ne : goal.returns-then-at-ne

@@ -8,7 +8,6 @@ use borrow.Rule.Slice.PartMut.{mid_len}
 use Rattle.tables.specs.Table.{Rising}
 use Rattle.look.specs.Answers.{IsLook}
 use Rattle.sheets.specs.Parts.{part_front}
-use borrow.Author.Rules.{rules}
 use Rattle.bound.proofs.look_here.Goals as goal
 
 pub look_term-requires : goal.look_term-requires

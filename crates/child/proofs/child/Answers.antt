@@ -3,7 +3,6 @@ use lib.ListN.{take}
 use Rattle.rules.specs.Calls.{bound_of}
 use Rattle.sheets.specs.Form.{limits_of}
 use Rattle.child.specs.Whole.{child_short, child_cut_off, child_over, child_made}
-use borrow.Author.Rules.{rules}
 use Rattle.child.proofs.child.Goals as goal
 
 pub returns-then-text-at-lt2 : goal.returns-then-text-at-lt2

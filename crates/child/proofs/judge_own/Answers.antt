@@ -3,7 +3,6 @@ use Rattle.sheets.specs.Form.{limits_of}
 use lib.ListN.{take}
 use Rattle.rules.specs.Calls.{bound_of}
 use Rattle.child.specs.Own.{judged_seen, judged_new, judged_cut, judged_cut_2}
-use borrow.Author.Rules.{rules}
 use Rattle.child.proofs.judge_own.Goals as goal
 
 pub returns-then-x-lt256 : goal.returns-then-x-lt256

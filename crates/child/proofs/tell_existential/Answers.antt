@@ -2,7 +2,6 @@ use Rattle.sheets.specs.Form.{limits_of}
 use lib.ListN.{take}
 use Rattle.rules.specs.Calls.{bound_of}
 use Rattle.child.specs.Owns.{existential_there, existential_told}
-use borrow.Author.Rules.{rules}
 use Rattle.child.proofs.tell_existential.Goals as goal
 
 pub returns-then-mentioned : goal.returns-then-mentioned

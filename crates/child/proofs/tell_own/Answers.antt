@@ -2,7 +2,6 @@ use Rattle.sheets.specs.Form.{limits_of}
 use lib.ListN.{take}
 use Rattle.rules.specs.Calls.{bound_of}
 use Rattle.child.specs.Own.{own_cut, own_seen, own_new, own_over}
-use borrow.Author.Rules.{rules}
 use Rattle.child.proofs.tell_own.Goals as goal
 
 pub returns-then-record_own : goal.returns-then-record_own

@@ -1,12 +1,10 @@
-use native.Mathlib.Omega.{arith}
-use mathlib.Core.Path.{◌≡◌, refl}
+use mathlib.Core.Path.{◌≡◌}
 use Rattle.sheets.specs.Form.{limits_of}
-use borrow.Author.Rules.{rules}
 use Prim.Native.Nat.{◌-◌, ◌≤◌}
 use lib.ListN.{length, take}
 use Rattle.rules.specs.Calls.{bound_of}
 use Rattle.enter.specs.Grow.{Sturdy}
-use Rattle.child.specs.Owns.{Left, left_start, left_end, left_over, left_next}
+use Rattle.child.specs.Owns.{Left}
 use Rattle.child.proofs.tell_owns.Given as goal
 
 abbrev pub invariant-loop-i : goal.invariant-loop-i

@@ -1,13 +1,10 @@
 use native.Mathlib.Omega.{arith}
-use mathlib.Core.Path.{◌≡◌, refl}
+use mathlib.Core.Path.{refl}
 use Rattle.sheets.specs.Form.{limits_of}
-use borrow.Author.Rules.{rules}
-use Prim.Native.Nat.{◌-◌, ◌≤◌}
 use mathlib.Core.Bool.{false}
-use lib.ListN.{length, take}
+use lib.ListN.{take}
 use Rattle.rules.specs.Calls.{bound_of}
-use Rattle.enter.specs.Grow.{Sturdy}
-use Rattle.child.specs.Tells.{Left, left_start, left_end, left_over, left_next}
+use Rattle.child.specs.Tells.{left_start, left_end, left_over, left_next}
 use Rattle.child.proofs.tells.Goals as goal
 
 pub loop-i-init : goal.loop-i-init

@@ -8,7 +8,6 @@ use borrow.Rule.Slice.PartMut.{mid_len}
 use Rattle.tables.specs.Table.{Rising}
 use Rattle.look.specs.Answers.{IsVariable}
 use Rattle.sheets.specs.Parts.{part_front}
-use borrow.Author.Rules.{rules}
 use Rattle.child.proofs.variable_here.Goals as goal
 
 pub look_variable-requires : goal.look_variable-requires

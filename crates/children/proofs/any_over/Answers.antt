@@ -1,13 +1,11 @@
 -- The disjuncts still to come have the answer of all; the chosen elements stay.
-use borrow.Author.Rules.{rules}
 use native.Mathlib.Omega.{arith}
-use Prim.Native.Nat.{◌≤◌, ◌<◌, ◌-◌}
-use mathlib.Core.Path.{◌≡◌, refl, sym, ◌∙◌, subst}
-use lib.ListN.{length, take}
+use Prim.Native.Nat.{◌<◌}
+use mathlib.Core.Path.{refl, sym, ◌∙◌, subst}
 use Rattle.base.specs.Lists.{All}
 use Rattle.rules.specs.Calls.{bound_of}
 use Rattle.sheets.specs.Form.{limits_of}
-use Rattle.children.specs.Ways.{derive_env, OverLeft, over_start, over_stop, over_next, over_end}
+use Rattle.children.specs.Ways.{derive_env, over_start, over_stop, over_next, over_end}
 use Rattle.children.proofs.any_over.Goals as goal
 
 pub loop-i-init : goal.loop-i-init

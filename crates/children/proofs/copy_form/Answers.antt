@@ -1,10 +1,7 @@
 -- The front is the copy so far.
-use borrow.Author.Rules.{rules}
-use Prim.Native.Nat.{◌≤◌, ◌-◌}
-use mathlib.Core.Path.{◌≡◌}
 use native.Mathlib.Omega.{arith}
-use lib.ListN.{length, length-set}
-use Rattle.children.specs.Copy.{copied, copy_none, copy_more, copy_all}
+use lib.ListN.{length-set}
+use Rattle.children.specs.Copy.{copy_none, copy_more, copy_all}
 use Rattle.children.proofs.copy_form.Goals as goal
 
 pub loop-i-init : goal.loop-i-init

@@ -1,10 +1,8 @@
 -- The front is the copy so far.
-use borrow.Author.Rules.{rules}
 use Prim.Native.Nat.{◌≤◌, ◌-◌}
 use mathlib.Core.Path.{◌≡◌}
-use native.Mathlib.Omega.{arith}
-use lib.ListN.{length, length-set}
-use Rattle.children.specs.Copy.{copied, copy_none, copy_more, copy_all}
+use lib.ListN.{length}
+use Rattle.children.specs.Copy.{copied}
 use Rattle.children.proofs.copy_form.Given as goal
 
 abbrev pub invariant-loop-i : goal.invariant-loop-i

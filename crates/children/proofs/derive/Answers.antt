@@ -1,5 +1,4 @@
 -- The form becomes the base's, the environment gets the origins' keys, and the child is made over both.
-use borrow.Author.Rules.{rules}
 use native.Mathlib.Omega.{arith}
 use mathlib.Core.Path.{refl, sym, subst}
 use mathlib.Core.Bool.{true, false}

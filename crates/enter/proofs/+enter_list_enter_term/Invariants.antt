@@ -1,9 +1,4 @@
-use lib.ListN.{take}
-use Rattle.sheets.specs.Form.{limits_of}
-use Rattle.enter.specs.Ways.{enters_later, answer_good, list_end, list_full, list_more, term_short, term_leaf, term_full, term_applied}
-use native.Mathlib.Omega.{arith}
-use borrow.Author.Rules.{rules}
-use Prim.Native.Nat.{ℕ, ◌<◌, ◌+◌, ◌*◌, ◌-◌}
+use Prim.Native.Nat.{◌+◌, ◌*◌, ◌-◌}
 use lib.ListN.{length}
 use Rattle.enter.proofs.+enter_list_enter_term.Given as goal
 

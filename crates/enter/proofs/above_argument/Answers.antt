@@ -4,7 +4,6 @@ use mathlib.Core.Path.{ap, ◌∙◌}
 use lib.ListN.{get_or}
 use Rattle.base.specs.Branch.{if}
 use Rattle.enter.specs.Args.{one_more, above}
-use borrow.Author.Rules.{rules}
 use Rattle.enter.proofs.above_argument.Goals as goal
 
 pub returns-then-i-count : goal.returns-then-i-count

@@ -3,7 +3,6 @@ use Prim.Native.Nat.{◌+◌}
 use native.Mathlib.Omega.{arith}
 use Rattle.sheets.specs.Form.{view_of}
 use Rattle.images.specs.Kept.{part_at, part_out}
-use borrow.Author.Rules.{rules}
 use Rattle.enter.proofs.depth_at.Goals as goal
 
 pub returns-then-e-w : goal.returns-then-e-w

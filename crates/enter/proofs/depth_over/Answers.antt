@@ -1,7 +1,6 @@
 use mathlib.Core.Path.{ap₂, ◌∙◌}
 use Prim.Native.Nat.{max}
 use Rattle.enter.specs.Args.{depth_of}
-use borrow.Author.Rules.{rules}
 use Rattle.enter.proofs.depth_over.Goals as goal
 
 pub returns : goal.returns

@@ -6,7 +6,6 @@ use Prim.Native.Nat.{◌%◌}
 use lib.ListN.{get_or}
 use Rattle.base.specs.Branch.{if}
 use Rattle.enter.specs.Args.{now_at}
-use borrow.Author.Rules.{rules}
 use Rattle.enter.proofs.now_argument.Goals as goal
 
 pub returns-then-i-count : goal.returns-then-i-count

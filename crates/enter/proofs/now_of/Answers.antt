@@ -3,7 +3,6 @@ use mathlib.Core.Path.{sym, ap}
 use Prim.Native.Nat.{◌+◌, ◌%◌}
 use Rattle.sheets.specs.Form.{view_of}
 use Rattle.images.specs.Kept.{part_at, part_out}
-use borrow.Author.Rules.{rules}
 use Rattle.enter.proofs.now_of.Goals as goal
 
 pub returns-then-e-le : goal.returns-then-e-le

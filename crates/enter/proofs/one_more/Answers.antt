@@ -1,7 +1,6 @@
 use borrow.Author.Tests.{lt-ltb, le-ltb}
 use Rattle.base.specs.Branch.{if}
 use Rattle.enter.specs.Args.{one_more}
-use borrow.Author.Rules.{rules}
 use Rattle.enter.proofs.one_more.Goals as goal
 
 pub returns-then-d-lt65536 : goal.returns-then-d-lt65536

@@ -10,7 +10,6 @@ use Rattle.sheets.specs.Parts.{part_front, part_length}
 use Rattle.sheets.specs.Form.{limits_of, view_of}
 use Rattle.enter.specs.Grow.{after}
 use Rattle.enter.specs.Keep.{exit_found, exit_full, exit_new}
-use borrow.Author.Rules.{rules}
 use Rattle.enter.proofs.put_key.Goals as goal
 
 pub look-old-requires : goal.look-old-requires

@@ -1,6 +1,5 @@
 use Rattle.sheets.specs.Form.{limits_of}
 use Rattle.enter.specs.Marks.{recorded_large, recorded_put}
-use borrow.Author.Rules.{rules}
 use Rattle.enter.proofs.record_key.Goals as goal
 
 pub returns-then-q-ge72057594037927936 : goal.returns-then-q-ge72057594037927936

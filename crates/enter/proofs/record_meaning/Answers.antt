@@ -1,7 +1,6 @@
 use native.Mathlib.Omega.{arith}
 use Rattle.sheets.specs.Form.{limits_of}
 use Rattle.enter.specs.Marks.{meant_element, meant_large, meant_witness}
-use borrow.Author.Rules.{rules}
 use Rattle.enter.proofs.record_meaning.Goals as goal
 
 pub returns-then-x-lt256 : goal.returns-then-x-lt256

@@ -1,6 +1,5 @@
 use native.Mathlib.Omega.{arith}
 use Rattle.enter.specs.Args.{resolved}
-use borrow.Author.Rules.{rules}
 use Rattle.enter.proofs.resolve.Goals as goal
 
 pub returns : goal.returns

@@ -3,7 +3,6 @@ use Rattle.evaluate.specs.Visits.{evaluates_never, evaluates_linear, evaluates_l
 use Rattle.evaluate.specs.declared.Fired.TheVariants.{Nothing}
 use lib.ListN.{take}
 use native.Mathlib.Omega.{arith}
-use borrow.Author.Rules.{rules}
 use Rattle.evaluate.proofs.evaluate.Goals as goal
 
 pub returns-then-start-book : goal.returns-then-start-book

@@ -1,12 +1,10 @@
 -- The sequents still to come have the answer of all.
 use native.Mathlib.Omega.{arith}
-use borrow.Author.Rules.{rules}
-use Prim.Native.Nat.{◌≤◌, ◌-◌}
 use mathlib.Core.Bool.{true, false}
-use mathlib.Core.Path.{◌≡◌, refl, ◌∙◌, subst}
-use lib.ListN.{length, take}
+use mathlib.Core.Path.{refl, ◌∙◌, subst}
+use lib.ListN.{take}
 use Rattle.firing.specs.Answers.{FirstChoice}
-use Rattle.evaluate.specs.Visits.{SequentsLeft, sequents_start, sequents_next, sequents_found, sequents_end}
+use Rattle.evaluate.specs.Visits.{sequents_start, sequents_next, sequents_found, sequents_end}
 use Rattle.evaluate.proofs.first_of.Goals as goal
 
 pub loop-j-init : goal.loop-j-init

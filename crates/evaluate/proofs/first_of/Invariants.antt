@@ -1,12 +1,8 @@
 -- The sequents still to come have the answer of all.
-use native.Mathlib.Omega.{arith}
-use borrow.Author.Rules.{rules}
 use Prim.Native.Nat.{◌≤◌, ◌-◌}
-use mathlib.Core.Bool.{true, false}
-use mathlib.Core.Path.{◌≡◌, refl, ◌∙◌, subst}
+use mathlib.Core.Path.{◌≡◌}
 use lib.ListN.{length, take}
-use Rattle.firing.specs.Answers.{FirstChoice}
-use Rattle.evaluate.specs.Visits.{SequentsLeft, sequents_start, sequents_next, sequents_found, sequents_end}
+use Rattle.evaluate.specs.Visits.{SequentsLeft}
 use Rattle.evaluate.proofs.first_of.Given as goal
 
 abbrev pub invariant-loop-j : goal.invariant-loop-j

@@ -1,4 +1,3 @@
-use borrow.Author.Rules.{rules}
 use Rattle.texts.specs.Parts.{part}
 use Rattle.evaluate.specs.Answers.{handed}
 use Rattle.evaluate.proofs.sequent_at.Goals as goal

@@ -1,5 +1,4 @@
 -- The buffers keep their lengths from record to record.
-use borrow.Author.Rules.{rules}
 use Prim.Native.Nat.{◌-◌}
 use mathlib.Core.Path.{◌≡◌}
 use lib.ListN.{length}

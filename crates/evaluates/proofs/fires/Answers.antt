@@ -1,7 +1,6 @@
 -- The checked sheet, loaded, is a basis for the evaluator, whose answer is for the sheet that the bytes say.
 use native.Mathlib.Omega.{arith}
 use Rattle.evaluates.specs.Lone.{basis, fires_on}
-use borrow.Author.Rules.{rules}
 use Rattle.evaluates.proofs.fires.Goals as goal
 
 pub evaluate_form-requires : goal.evaluate_form-requires

@@ -2,7 +2,6 @@
 use mathlib.Core.Path.{sym, ◌∙◌}
 use Rattle.numbers.specs.Answers.{checked_ends}
 use Rattle.texts.specs.Heads.{read_as}
-use borrow.Author.Rules.{rules}
 use Rattle.evaluates.proofs.report.Goals as goal
 
 pub check_sheet-requires : goal.check_sheet-requires

@@ -1,5 +1,4 @@
 -- Places stay within the slice.
-use borrow.Author.Rules.{rules}
 use Prim.Native.Nat.{◌≤◌, ◌-◌}
 use lib.ListN.{length}
 use Rattle.evaluates.proofs.say_choice.Given as goal

@@ -2,10 +2,8 @@
 use Rattle.firing.specs.Loops.{disjunct_short, disjunct_wide, disjunct_cut, disjunct_not, disjunct_is}
 use lib.ListN.{take}
 use mathlib.Core.Bool.{false}
-use borrow.Author.Tests.{not-true, not-false}
 use native.Mathlib.Omega.{arith}
 use mathlib.Core.Path.{refl}
-use borrow.Author.Rules.{rules}
 use Rattle.firing.proofs.disjunct_observed.Goals as goal
 
 pub returns-then-text-at-lt2 : goal.returns-then-text-at-lt2

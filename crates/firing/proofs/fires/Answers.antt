@@ -1,9 +1,7 @@
 -- The body is tested first, then the head.
 use Rattle.firing.specs.Loops.{fires_not, fires_if}
 use lib.ListN.{take}
-use borrow.Author.Tests.{not-true, not-false}
 use mathlib.Core.Path.{refl}
-use borrow.Author.Rules.{rules}
 use Rattle.firing.proofs.fires.Goals as goal
 
 pub returns-then-not-literals_observed : goal.returns-then-not-literals_observed

@@ -3,9 +3,7 @@ use Rattle.firing.specs.Search.{choice_short, choice_wide, choice_none, choice_c
 use lib.ListN.{take}
 use native.Mathlib.Omega.{arith}
 use mathlib.Core.Bool.{false}
-use mathlib.Core.Logic.{⊎_elim}
 use mathlib.Core.Path.{ap}
-use borrow.Author.Rules.{rules}
 use Rattle.firing.proofs.first_choice.Goals.{then-v-gt0+else-nd-eq0, else-v-gt0}
 use Rattle.firing.proofs.first_choice.Goals as goal
 

@@ -1,13 +1,7 @@
 -- The choices from the indices on have the answer of all, and grow fewer.
-use Rattle.firing.specs.Search.{chosen_small, Searching, search_start, step_found, step_next, step_none, choices_fall, zeros_below, zeros_four}
-use lib.Seq.{length-take-le}
-use borrow.Author.Tests.{not-true, not-false}
-use native.Mathlib.Omega.{arith}
-use borrow.Author.Rules.{rules}
-use Prim.Native.Nat.{◌<◌, ◌-◌}
-use mathlib.Core.Path.{◌≡◌, refl, sym, ◌∙◌, subst}
+use Rattle.firing.specs.Search.{Searching}
+use mathlib.Core.Path.{◌≡◌}
 use lib.ListN.{length, take}
-use Rattle.base.specs.Lists.{All}
 use Rattle.choosing.specs.Choosing.{Below, chosen, onward}
 use Rattle.firing.proofs.first_from.Given as goal
 

@@ -1,9 +1,7 @@
 -- The variables still to come have the answer of all.
 use native.Mathlib.Omega.{arith}
-use borrow.Author.Rules.{rules}
-use Prim.Native.Nat.{◌≤◌, ◌-◌}
 use lib.ListN.{take}
-use Rattle.firing.specs.Loops.{ElementsLeft, elements_start, elements_next, elements_stop, elements_end}
+use Rattle.firing.specs.Loops.{elements_start, elements_next, elements_stop, elements_end}
 use Rattle.firing.proofs.have_elements.Goals as goal
 
 pub loop-i-init : goal.loop-i-init

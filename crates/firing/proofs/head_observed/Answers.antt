@@ -1,11 +1,10 @@
 -- The disjuncts still to come have the answer of all; the chosen elements stay.
 use native.Mathlib.Omega.{arith}
-use borrow.Author.Rules.{rules}
-use Prim.Native.Nat.{◌≤◌, ◌<◌, ◌-◌}
-use mathlib.Core.Path.{◌≡◌, refl, sym, ◌∙◌, subst}
-use lib.ListN.{length, take}
+use Prim.Native.Nat.{◌<◌}
+use mathlib.Core.Path.{refl, sym, ◌∙◌, subst}
+use lib.ListN.{take}
 use Rattle.base.specs.Lists.{All}
-use Rattle.firing.specs.Loops.{HeadLeft, disjunct_env, head_start, head_stop, head_next, head_end}
+use Rattle.firing.specs.Loops.{disjunct_env, head_start, head_stop, head_next, head_end}
 use Rattle.firing.proofs.head_observed.Goals as goal
 
 pub loop-i-init : goal.loop-i-init

@@ -1,11 +1,8 @@
 -- The disjuncts still to come have the answer of all; the chosen elements stay.
-use native.Mathlib.Omega.{arith}
-use borrow.Author.Rules.{rules}
-use Prim.Native.Nat.{◌≤◌, ◌<◌, ◌-◌}
-use mathlib.Core.Path.{◌≡◌, refl, sym, ◌∙◌, subst}
+use Prim.Native.Nat.{◌≤◌, ◌-◌}
+use mathlib.Core.Path.{◌≡◌}
 use lib.ListN.{length, take}
-use Rattle.base.specs.Lists.{All}
-use Rattle.firing.specs.Loops.{HeadLeft, disjunct_env, head_start, head_stop, head_next, head_end}
+use Rattle.firing.specs.Loops.{HeadLeft}
 use Rattle.firing.proofs.head_observed.Given as goal
 
 abbrev pub invariant-loop-i : goal.invariant-loop-i

@@ -1,10 +1,7 @@
 -- The literals still to come have the answer of all.
-use borrow.Author.Tests.{not-true, not-false}
 use native.Mathlib.Omega.{arith}
-use borrow.Author.Rules.{rules}
-use Prim.Native.Nat.{◌≤◌, ◌-◌}
-use lib.ListN.{length, take}
-use Rattle.firing.specs.Loops.{LiteralsLeft, literals_start, literals_stop, literals_next, literals_end}
+use lib.ListN.{take}
+use Rattle.firing.specs.Loops.{literals_start, literals_stop, literals_next, literals_end}
 use Rattle.firing.proofs.literals_observed.Goals as goal
 
 pub loop-i-init : goal.loop-i-init

@@ -1,10 +1,7 @@
 -- The literals still to come have the answer of all.
-use borrow.Author.Tests.{not-true, not-false}
-use native.Mathlib.Omega.{arith}
-use borrow.Author.Rules.{rules}
 use Prim.Native.Nat.{◌≤◌, ◌-◌}
 use lib.ListN.{length, take}
-use Rattle.firing.specs.Loops.{LiteralsLeft, literals_start, literals_stop, literals_next, literals_end}
+use Rattle.firing.specs.Loops.{LiteralsLeft}
 use Rattle.firing.proofs.literals_observed.Given as goal
 
 abbrev pub invariant-loop-i : goal.invariant-loop-i

@@ -1,14 +1,12 @@
 -- The environment so far and the origins still to come are the whole.
 use native.Mathlib.Omega.{arith}
-use borrow.Author.Rules.{rules}
-use Prim.Native.Nat.{◌≤◌, ◌<◌, ◌-◌, ◌+◌}
-use mathlib.Core.Path.{◌≡◌, refl, sym, ◌∙◌, subst}
-use lib.ListN.{length, take, length-set}
+use Prim.Native.Nat.{◌<◌, ◌+◌}
+use mathlib.Core.Path.{refl, sym, ◌∙◌, subst}
+use lib.ListN.{take, length-set}
 use lib.Seq.{length-take-le, take-set-le}
 use Rattle.base.specs.Lists.{All}
-use Rattle.skips.specs.Rest.{Within}
 use Rattle.firing.specs.Answers.{IsOriginKey}
-use Rattle.firing.specs.Origins.{Makes, makes_start, makes_next, makes_end}
+use Rattle.firing.specs.Origins.{makes_start, makes_next, makes_end}
 use Rattle.firing.proofs.make_env.Goals as goal
 
 pub loop-i-init : goal.loop-i-init

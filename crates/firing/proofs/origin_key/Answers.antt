@@ -1,12 +1,11 @@
 -- What is packed so far, and the arguments still to come.
 use Rattle.firing.specs.Origins.{element_octet, origin_done, Packs, packs_start, packs_never, packs_next, packs_end}
-use Rattle.look.specs.Digits.{start, Roomy}
+use Rattle.look.specs.Digits.{start}
 use Rattle.rules.specs.Reading.{num}
 use lib.Seq.{length-take-le, get_or-take}
 use lib.ListN.{get_or, take}
 use native.Mathlib.Omega.{arith}
-use borrow.Author.Rules.{rules}
-use Prim.Native.Nat.{◌≤◌, ◌-◌, ◌+◌, ◌*◌, ◌/◌}
+use Prim.Native.Nat.{◌+◌, ◌*◌, ◌/◌}
 use mathlib.Core.Path.{◌≡◌, sym, ap, ◌∙◌, subst}
 use Rattle.firing.proofs.origin_key.Goals as goal
 

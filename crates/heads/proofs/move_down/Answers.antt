@@ -1,9 +1,8 @@
 -- The entries so far have moved down.
-use borrow.Author.Rules.{rules}
-use Prim.Native.Nat.{◌≤◌, ◌-◌, ◌+◌}
+use Prim.Native.Nat.{◌+◌}
 use mathlib.Core.Path.{◌≡◌, refl, ap, ◌∙◌}
 use native.Mathlib.Omega.{arith}
-use lib.ListN.{length, set, length-set}
+use lib.ListN.{set, length-set}
 use Rattle.heads.specs.Shift.{moved, moved_none, moved_next, moved_more, moved_last}
 use Rattle.heads.proofs.move_down.Goals as goal
 

@@ -1,10 +1,9 @@
 -- Entries above i are moved.
-use Prim.Native.Nat.{◌≤◌, ◌-◌, ◌+◌}
+use Prim.Native.Nat.{◌+◌}
 use mathlib.Core.Path.{◌≡◌, refl, sym}
 use native.Mathlib.Omega.{arith}
-use borrow.Author.Rules.{rules}
-use lib.ListN.{length, length-set}
-use Rattle.tables.specs.Shift.{opened, opened_none, opened_more, opened_set}
+use lib.ListN.{length-set}
+use Rattle.tables.specs.Shift.{opened_none, opened_more, opened_set}
 use Rattle.heads.specs.Shift.{moved_up}
 use Rattle.heads.proofs.move_up.Goals as goal
 

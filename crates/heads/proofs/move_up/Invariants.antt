@@ -1,11 +1,8 @@
 -- Entries above i are moved.
-use Prim.Native.Nat.{◌≤◌, ◌-◌, ◌+◌}
-use mathlib.Core.Path.{◌≡◌, refl, sym}
-use native.Mathlib.Omega.{arith}
-use borrow.Author.Rules.{rules}
-use lib.ListN.{length, length-set}
-use Rattle.tables.specs.Shift.{opened, opened_none, opened_more, opened_set}
-use Rattle.heads.specs.Shift.{moved_up}
+use Prim.Native.Nat.{◌≤◌, ◌+◌}
+use mathlib.Core.Path.{◌≡◌}
+use lib.ListN.{length}
+use Rattle.tables.specs.Shift.{opened}
 use Rattle.heads.proofs.move_up.Given as goal
 
 abbrev pub invariant-loop-i : goal.invariant-loop-i

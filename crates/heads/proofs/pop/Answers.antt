@@ -3,7 +3,6 @@ use mathlib.Core.Path.{ap}
 use Prim.Native.Nat.{◌+◌, ◌-◌}
 use lib.ListN.{set}
 use Rattle.heads.specs.Lists.{pop_none, pop_out}
-use borrow.Author.Rules.{rules}
 use Rattle.heads.proofs.pop.Goals as goal
 
 pub returns-then-n-eq0 : goal.returns-then-n-eq0

@@ -3,7 +3,6 @@ use mathlib.Core.Path.{refl}
 use native.Mathlib.Omega.{arith}
 use lib.ListN.{length-set}
 use Rattle.heads.specs.Lists.{back_full, back_out}
-use borrow.Author.Rules.{rules}
 use Rattle.heads.proofs.push_back.Goals as goal
 
 pub returns-then-n-ge64 : goal.returns-then-n-ge64

@@ -3,7 +3,6 @@ use mathlib.Core.Path.{ap}
 use Prim.Native.Nat.{◌+◌}
 use lib.ListN.{set}
 use Rattle.heads.specs.Lists.{front_full, front_out}
-use borrow.Author.Rules.{rules}
 use Rattle.heads.proofs.push_front.Goals as goal
 
 pub returns-then-n-ge64 : goal.returns-then-n-ge64

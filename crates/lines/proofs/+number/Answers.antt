@@ -2,8 +2,6 @@
 use Rattle.lines.specs.Wrote.{wrote_length}
 use Rattle.lines.specs.Writing.{one_digit, digit_more, number_small, number_large}
 use native.Mathlib.Omega.{arith}
-use borrow.Author.Rules.{rules}
-use Prim.Native.Nat.{ℕ, ◌<◌}
 use Rattle.lines.proofs.+number.Goals as goal
 
 pub bounds-out-n : goal.bounds-out-n

@@ -2,7 +2,6 @@
 use native.Mathlib.Omega.{arith}
 use Rattle.lines.specs.Wrote.{wrote_as}
 use Rattle.lines.specs.Lines.{args_few, args_many}
-use borrow.Author.Rules.{rules}
 use Rattle.lines.proofs.arguments.Goals as goal
 
 pub returns-then-count-gt4 : goal.returns-then-count-gt4

@@ -3,7 +3,6 @@ use native.Mathlib.Omega.{arith}
 use Rattle.lines.specs.Text.{fact_word, newline}
 use Rattle.lines.specs.Wrote.{wrote_next, wrote_as}
 use Rattle.lines.specs.Lines.{fact_parts_lem}
-use borrow.Author.Rules.{rules}
 use Rattle.lines.proofs.fact_line.Goals as goal
 
 pub returns : goal.returns

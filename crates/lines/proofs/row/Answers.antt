@@ -1,11 +1,9 @@
 -- The fields of the bytes passed are written.
 use native.Mathlib.Omega.{arith}
-use borrow.Author.Rules.{rules}
-use Prim.Native.Nat.{◌+◌, ◌-◌, ◌*◌, ◌≤◌}
 use mathlib.Core.Path.{◌≡◌, refl, ap}
-use lib.ListN.{length, take, drop}
+use lib.ListN.{take, drop}
 use Rattle.lines.specs.Text.{fields}
-use Rattle.lines.specs.Wrote.{Wrote, wrote_none, wrote_as}
+use Rattle.lines.specs.Wrote.{wrote_none, wrote_as}
 use Rattle.lines.specs.Writing.{fields_none, row_more}
 use Rattle.lines.proofs.row.Goals as goal
 

@@ -1,12 +1,9 @@
 -- The fields of the bytes passed are written.
-use native.Mathlib.Omega.{arith}
-use borrow.Author.Rules.{rules}
 use Prim.Native.Nat.{◌+◌, ◌-◌, ◌*◌, ◌≤◌}
-use mathlib.Core.Path.{◌≡◌, refl, ap}
+use mathlib.Core.Path.{◌≡◌}
 use lib.ListN.{length, take, drop}
 use Rattle.lines.specs.Text.{fields}
-use Rattle.lines.specs.Wrote.{Wrote, wrote_none, wrote_as}
-use Rattle.lines.specs.Writing.{fields_none, row_more}
+use Rattle.lines.specs.Wrote.{Wrote}
 use Rattle.lines.proofs.row.Given as goal
 
 abbrev pub invariant-loop-i : goal.invariant-loop-i

@@ -4,7 +4,6 @@ use native.Mathlib.Omega.{arith}
 use lib.ListN.{length-set}
 use Rattle.lines.specs.Numbers.{ten_digits}
 use Rattle.lines.specs.Writing.{field_wrote}
-use borrow.Author.Rules.{rules}
 use Rattle.lines.proofs.wide_field.Goals as goal
 
 pub number-requires : goal.number-requires

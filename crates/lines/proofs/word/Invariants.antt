@@ -1,11 +1,7 @@
 -- The bytes passed are written.
-use lib.Seq.{take_all}
-use Rattle.lines.specs.Writing.{wrote_to, word_more}
-use borrow.Author.Rules.{rules}
 use Prim.Native.Nat.{◌+◌, ◌-◌, ◌≤◌}
-use native.Mathlib.Omega.{arith}
 use lib.ListN.{length, take}
-use Rattle.lines.specs.Wrote.{Wrote, wrote_none, wrote_length, wrote_as}
+use Rattle.lines.specs.Wrote.{Wrote}
 use Rattle.lines.proofs.word.Given as goal
 
 abbrev pub invariant-loop-i : goal.invariant-loop-i

@@ -3,7 +3,6 @@ use Prim.Native.Nat.{◌≤◌}
 use mathlib.Core.Path.{sym, subst}
 use lib.Seq.{length-take-le}
 use Rattle.lines.specs.Wrote.{wrote_length}
-use borrow.Author.Rules.{rules}
 use Rattle.listing.proofs.main.Goals as goal
 
 pub slice_bounds-write_all-end : goal.slice_bounds-write_all-end

@@ -3,7 +3,6 @@ use mathlib.Core.Path.{refl}
 use native.Mathlib.Omega.{arith}
 use lib.ListN.{length-set}
 use Rattle.lists.specs.Moves.{counts_on}
-use borrow.Author.Rules.{rules}
 use Rattle.lists.proofs.count_on.Goals as goal
 
 pub bounds-pool-9 : goal.bounds-pool-9

@@ -1,7 +1,6 @@
 -- Each way by its law.
 use mathlib.Core.Path.{sym, ◌∙◌}
 use Rattle.lists.specs.Moves.{enlist_cut, enlist_fifo, enlist_lifo}
-use borrow.Author.Rules.{rules}
 use Rattle.lists.proofs.enlist.Goals as goal
 
 pub returns-then-cut : goal.returns-then-cut

@@ -1,6 +1,5 @@
 -- A pop, then a push.
 use Rattle.lists.specs.Moves.{finished}
-use borrow.Author.Rules.{rules}
 use Rattle.lists.proofs.finish.Goals as goal
 
 pub returns : goal.returns

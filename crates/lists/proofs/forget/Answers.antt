@@ -1,6 +1,5 @@
 -- The first waiting slot is popped.
 use Rattle.lists.specs.Moves.{forgotten}
-use borrow.Author.Rules.{rules}
 use Rattle.lists.proofs.forget.Goals as goal
 
 pub returns : goal.returns

@@ -1,7 +1,6 @@
 -- The rest of the list has the same answer as the whole.
 use native.Mathlib.Omega.{arith}
-use borrow.Author.Rules.{rules}
-use Prim.Native.Nat.{◌+◌, ◌≤◌, ◌-◌}
+use Prim.Native.Nat.{◌+◌}
 use mathlib.Core.Path.{◌≡◌, sym, ap, ◌∙◌}
 use lib.ListN.{get_or, take, drop, length-drop}
 use lib.Seq.{get_or-drop}

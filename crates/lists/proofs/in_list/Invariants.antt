@@ -1,13 +1,8 @@
 -- The rest of the list has the same answer as the whole.
-use native.Mathlib.Omega.{arith}
-use borrow.Author.Rules.{rules}
-use Prim.Native.Nat.{◌+◌, ◌≤◌, ◌-◌}
-use mathlib.Core.Path.{◌≡◌, sym, ap, ◌∙◌}
-use lib.ListN.{get_or, take, drop, length-drop}
-use lib.Seq.{get_or-drop}
+use Prim.Native.Nat.{◌≤◌, ◌-◌}
+use mathlib.Core.Path.{◌≡◌}
+use lib.ListN.{take, drop}
 use Rattle.base.specs.Lists.{mem}
-use Rattle.domains.specs.Front.{mem_here, mem_on, mem_end}
-use Rattle.lists.specs.Header.{list_front}
 use Rattle.lists.proofs.in_list.Given as goal
 
 abbrev pub invariant-loop-j : goal.invariant-loop-j

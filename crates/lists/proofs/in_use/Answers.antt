@@ -1,4 +1,3 @@
-use borrow.Author.Rules.{rules}
 use mathlib.Core.Path.{sym, ◌∙◌}
 use Rattle.lists.specs.Header.{used_first, used_second, used_third}
 use Rattle.lists.proofs.in_use.Goals as goal

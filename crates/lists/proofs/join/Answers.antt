@@ -1,6 +1,5 @@
 -- A slot more, then a number more.
 use Rattle.lists.specs.Moves.{joined}
-use borrow.Author.Rules.{rules}
 use Rattle.lists.proofs.join.Goals as goal
 
 pub returns : goal.returns

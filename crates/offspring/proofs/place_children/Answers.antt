@@ -1,14 +1,12 @@
 -- The children still to come are those that the definition has left; the chosen elements stay.
 use native.Mathlib.Omega.{arith}
-use borrow.Author.Rules.{rules}
-use Prim.Native.Nat.{◌-◌, ◌≤◌, ◌<◌}
-use mathlib.Core.Path.{◌≡◌, refl, sym, ◌∙◌, subst}
-use lib.ListN.{length, take}
+use Prim.Native.Nat.{◌<◌}
+use mathlib.Core.Path.{refl, sym, ◌∙◌, subst}
 use Rattle.base.specs.Lists.{All}
 use Rattle.rules.specs.Calls.{bound_of}
 use Rattle.sheets.specs.Form.{limits_of}
 use Rattle.offspring.specs.One.{one_env}
-use Rattle.offspring.specs.All.{PlacedLeft, placed_start, placed_end, placed_next}
+use Rattle.offspring.specs.All.{placed_start, placed_end, placed_next}
 use Rattle.offspring.proofs.place_children.Goals as goal
 
 pub loop-i-init : goal.loop-i-init

@@ -1,14 +1,10 @@
 -- The children still to come are those that the definition has left; the chosen elements stay.
-use native.Mathlib.Omega.{arith}
-use borrow.Author.Rules.{rules}
-use Prim.Native.Nat.{◌-◌, ◌≤◌, ◌<◌}
-use mathlib.Core.Path.{◌≡◌, refl, sym, ◌∙◌, subst}
+use Prim.Native.Nat.{◌-◌, ◌≤◌}
+use mathlib.Core.Path.{◌≡◌}
 use lib.ListN.{length, take}
-use Rattle.base.specs.Lists.{All}
 use Rattle.rules.specs.Calls.{bound_of}
 use Rattle.sheets.specs.Form.{limits_of}
-use Rattle.offspring.specs.One.{one_env}
-use Rattle.offspring.specs.All.{PlacedLeft, placed_start, placed_end, placed_next}
+use Rattle.offspring.specs.All.{PlacedLeft}
 use Rattle.offspring.proofs.place_children.Given as goal
 
 abbrev pub invariant-loop-i : goal.invariant-loop-i

@@ -1,6 +1,5 @@
 -- The child is made, and goes into the lowest free slot.
 use native.Mathlib.Omega.{arith}
-use borrow.Author.Rules.{rules}
 use Prim.Native.Nat.{◌+◌, ◌*◌}
 use lib.ListN.{length}
 use Rattle.rules.specs.Calls.{bound_of}

@@ -2,7 +2,6 @@
 use mathlib.Core.Path.{sym, ◌∙◌}
 use Rattle.numbers.specs.Answers.{checked_ends, checked_refused}
 use Rattle.openings.specs.Open.{open_going, open_refused}
-use borrow.Author.Rules.{rules}
 use Rattle.openings.proofs.open.Goals as goal
 
 pub returns-in-Refused : goal.returns-in-Refused

@@ -2,7 +2,6 @@
 use mathlib.Core.Path.{ap₂, ◌∙◌}
 use Rattle.openings.specs.Order.{first_refusal}
 use Rattle.openings.specs.Open.{length_least, right_true, settings_within, open_unfit, open_fit, opens}
-use borrow.Author.Rules.{rules}
 use Rattle.openings.proofs.open_checked.Goals as goal
 
 pub returns-then-n-ne0 : goal.returns-then-n-ne0

@@ -1,7 +1,6 @@
 -- `right_length` meets its contract: each way out by its law.
 use mathlib.Core.Path.{refl}
 use Rattle.openings.specs.Open.{length_short, length_wrong, length_none, length_right}
-use borrow.Author.Rules.{rules}
 use Rattle.openings.proofs.right_length.Goals as goal
 
 pub returns-then-len-lt208 : goal.returns-then-len-lt208

@@ -2,7 +2,6 @@
 use native.Mathlib.Omega.{arith}
 use lib.ListN.{length-set}
 use Rattle.openings.specs.Open.{open_written}
-use borrow.Author.Rules.{rules}
 use Rattle.openings.proofs.write_open.Goals as goal
 
 pub bounds-pool-1 : goal.bounds-pool-1

@@ -1,10 +1,7 @@
 -- The lines of the elements passed are written.
-use Prim.Native.Nat.{◌+◌, ◌-◌, ◌*◌, ◌≤◌}
 use mathlib.Core.Path.{◌≡◌, refl, ap}
 use native.Mathlib.Omega.{arith}
-use borrow.Author.Rules.{rules}
-use lib.ListN.{length}
-use Rattle.lines.specs.Wrote.{Wrote, wrote_none, wrote_as}
+use Rattle.lines.specs.Wrote.{wrote_none, wrote_as}
 use Rattle.pages.specs.Tables.{depths_text, depths_none, depths_more}
 use Rattle.pages.proofs.depth_lines.Goals as goal
 

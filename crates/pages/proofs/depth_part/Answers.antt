@@ -3,7 +3,6 @@ use native.Mathlib.Omega.{arith}
 use mathlib.Core.Path.{sym, ◌∙◌}
 use Rattle.lines.specs.Wrote.{wrote_none, wrote_as}
 use Rattle.pages.specs.Tables.{depth_yielded, depth_unknown}
-use borrow.Author.Rules.{rules}
 use Rattle.pages.proofs.depth_part.Goals as goal
 
 pub returns-then-yielded : goal.returns-then-yielded

@@ -1,11 +1,9 @@
 -- The lines of the entries passed are written.
-use native.Mathlib.Omega.{arith}
-use borrow.Author.Rules.{rules}
 use Prim.Native.Nat.{◌+◌, ◌-◌, ◌*◌, ◌≤◌}
-use mathlib.Core.Path.{◌≡◌, refl, ap}
+use mathlib.Core.Path.{◌≡◌}
 use lib.ListN.{length}
-use Rattle.lines.specs.Wrote.{Wrote, wrote_none, wrote_as}
-use Rattle.pages.specs.Tables.{key_text, table_text, table_none, table_more}
+use Rattle.lines.specs.Wrote.{Wrote}
+use Rattle.pages.specs.Tables.{key_text, table_text}
 use Rattle.pages.proofs.key_lines.Given as goal
 
 abbrev pub invariant-loop-i : goal.invariant-loop-i

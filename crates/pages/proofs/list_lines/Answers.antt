@@ -1,10 +1,8 @@
 -- The sheets of the slots passed are written.
-use Prim.Native.Nat.{◌+◌, ◌-◌, ◌*◌, ◌≤◌}
 use mathlib.Core.Path.{◌≡◌, refl, ap}
 use native.Mathlib.Omega.{arith}
-use borrow.Author.Rules.{rules}
-use lib.ListN.{length, take, drop}
-use Rattle.lines.specs.Wrote.{Wrote, wrote_none, wrote_as}
+use lib.ListN.{take, drop}
+use Rattle.lines.specs.Wrote.{wrote_none, wrote_as}
 use Rattle.pages.specs.Tables.{slot_text, slots_text, slots_none, slots_more}
 use Rattle.pages.proofs.list_lines.Goals as goal
 

@@ -1,11 +1,9 @@
 -- The sheets of the slots passed are written.
 use Prim.Native.Nat.{◌+◌, ◌-◌, ◌*◌, ◌≤◌}
-use mathlib.Core.Path.{◌≡◌, refl, ap}
-use native.Mathlib.Omega.{arith}
-use borrow.Author.Rules.{rules}
+use mathlib.Core.Path.{◌≡◌}
 use lib.ListN.{length, take, drop}
-use Rattle.lines.specs.Wrote.{Wrote, wrote_none, wrote_as}
-use Rattle.pages.specs.Tables.{slot_text, slots_text, slots_none, slots_more}
+use Rattle.lines.specs.Wrote.{Wrote}
+use Rattle.pages.specs.Tables.{slots_text}
 use Rattle.pages.proofs.list_lines.Given as goal
 
 abbrev pub invariant-loop-j : goal.invariant-loop-j

@@ -2,7 +2,6 @@
 use native.Mathlib.Omega.{arith}
 use Rattle.lines.specs.Wrote.{wrote_next, wrote_as}
 use Rattle.pages.specs.Sheets.{model_parts}
-use borrow.Author.Rules.{rules}
 use Rattle.pages.proofs.model_lines.Goals as goal
 
 pub returns : goal.returns

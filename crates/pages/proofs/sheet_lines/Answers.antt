@@ -3,7 +3,6 @@ use native.Mathlib.Omega.{arith}
 use Rattle.lines.specs.Text.{newline}
 use Rattle.lines.specs.Wrote.{wrote_next, wrote_as}
 use Rattle.pages.specs.Sheets.{sheet_parts}
-use borrow.Author.Rules.{rules}
 use Rattle.pages.proofs.sheet_lines.Goals as goal
 
 pub returns : goal.returns

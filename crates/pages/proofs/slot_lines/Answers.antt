@@ -5,7 +5,6 @@ use mathlib.Core.Path.{◌≡◌, ap}
 use Rattle.lines.specs.Text.{sheet_lines}
 use Rattle.lines.specs.Wrote.{wrote_as}
 use Rattle.pages.specs.Pools.{slot_there, slot_behind}
-use borrow.Author.Rules.{rules}
 use Rattle.pages.proofs.slot_lines.Goals as goal
 
 pub returns-then-i-pool : goal.returns-then-i-pool

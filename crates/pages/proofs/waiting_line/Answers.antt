@@ -3,7 +3,6 @@ use native.Mathlib.Omega.{arith}
 use Rattle.lines.specs.Text.{waiting_word, newline}
 use Rattle.lines.specs.Wrote.{wrote_next, wrote_as}
 use Rattle.pages.specs.Tables.{waiting_parts}
-use borrow.Author.Rules.{rules}
 use Rattle.pages.proofs.waiting_line.Goals as goal
 
 pub returns : goal.returns

@@ -1,11 +1,7 @@
 -- No key passed yields the element.
 use native.Mathlib.Omega.{arith}
-use borrow.Author.Rules.{rules}
-use Prim.Native.Nat.{◌-◌, ◌≤◌}
-use mathlib.Core.Path.{◌≡◌, sym, ◌∙◌}
-use lib.ListN.{drop}
-use Rattle.base.specs.Lists.{mem}
-use Rattle.pages.specs.Tables.{values_in, value_here, value_there, value_none}
+use mathlib.Core.Path.{sym, ◌∙◌}
+use Rattle.pages.specs.Tables.{value_here, value_there, value_none}
 use Rattle.pages.proofs.yielded.Goals as goal
 
 pub returns-then-byte-element : goal.returns-then-byte-element

@@ -1,11 +1,9 @@
 -- No key passed yields the element.
-use native.Mathlib.Omega.{arith}
-use borrow.Author.Rules.{rules}
 use Prim.Native.Nat.{◌-◌, ◌≤◌}
-use mathlib.Core.Path.{◌≡◌, sym, ◌∙◌}
+use mathlib.Core.Path.{◌≡◌}
 use lib.ListN.{drop}
 use Rattle.base.specs.Lists.{mem}
-use Rattle.pages.specs.Tables.{values_in, value_here, value_there, value_none}
+use Rattle.pages.specs.Tables.{values_in}
 use Rattle.pages.proofs.yielded.Given as goal
 
 abbrev pub invariant-loop-i : goal.invariant-loop-i

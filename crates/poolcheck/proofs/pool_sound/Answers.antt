@@ -1,10 +1,8 @@
 -- Each way out by its law, with the slots that the length has room for.
 use mathlib.Core.Path.{sym, ◌∙◌}
-use Prim.Native.Nat.{◌-◌}
 use native.Mathlib.Omega.{arith}
 use lib.ListN.{length}
 use Rattle.poolcheck.specs.Books.{right_slots, slots_out, frame_out}
-use borrow.Author.Rules.{rules}
 use Rattle.poolcheck.proofs.pool_sound.Goals as goal
 
 pub overflow_sub-n : goal.overflow_sub-n

@@ -1,10 +1,8 @@
 -- The slots passed are free or have other numbers.
-use borrow.Author.Rules.{rules}
-use Prim.Native.Nat.{◌≤◌, ◌-◌}
-use mathlib.Core.Path.{◌≡◌, refl, sym, ◌∙◌}
+use mathlib.Core.Path.{refl, sym, ◌∙◌}
 use native.Mathlib.Omega.{arith}
-use Rattle.sheetparts.specs.Loops.{every, turn, out, done}
-use Rattle.poolparts.specs.Tests.{other_at, differs}
+use Rattle.sheetparts.specs.Loops.{turn, out, done}
+use Rattle.poolparts.specs.Tests.{differs}
 use Rattle.poolparts.proofs.differs.Goals as goal
 
 pub loop-j-init : goal.loop-j-init

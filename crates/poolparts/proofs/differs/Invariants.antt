@@ -1,9 +1,7 @@
 -- The slots passed are free or have other numbers.
-use borrow.Author.Rules.{rules}
 use Prim.Native.Nat.{◌≤◌, ◌-◌}
-use mathlib.Core.Path.{◌≡◌, refl, sym, ◌∙◌}
-use native.Mathlib.Omega.{arith}
-use Rattle.sheetparts.specs.Loops.{every, turn, out, done}
+use mathlib.Core.Path.{◌≡◌}
+use Rattle.sheetparts.specs.Loops.{every}
 use Rattle.poolparts.specs.Tests.{other_at, differs}
 use Rattle.poolparts.proofs.differs.Given as goal
 

@@ -3,7 +3,6 @@ use mathlib.Core.Path.{sym, ◌∙◌}
 use borrow.Author.Tests.{lt-ltb, le-ltb, eq-eqb, ne_eqb}
 use Rattle.poolparts.specs.Tests.{frame_right}
 use Rattle.sheetparts.specs.Ways.{on, off}
-use borrow.Author.Rules.{rules}
 use Rattle.poolparts.proofs.frame_right.Goals as goal
 
 pub returns-then-next_number-gt65536 : goal.returns-then-next_number-gt65536

@@ -1,10 +1,8 @@
 -- The entries passed are slots.
-use borrow.Author.Rules.{rules}
-use Prim.Native.Nat.{◌≤◌, ◌-◌}
-use mathlib.Core.Path.{◌≡◌, refl}
+use mathlib.Core.Path.{refl}
 use native.Mathlib.Omega.{arith}
 use borrow.Author.Tests.{lt-ltb, le-ltb}
-use Rattle.sheetparts.specs.Loops.{every, turn, out, done}
+use Rattle.sheetparts.specs.Loops.{turn, out, done}
 use Rattle.poolparts.specs.Tests.{slot_at, in_range}
 use Rattle.poolparts.proofs.in_range.Goals as goal
 

@@ -2,7 +2,6 @@
 use mathlib.Core.Path.{sym, ◌∙◌}
 use Rattle.poolparts.specs.Tests.{list_right}
 use Rattle.sheetparts.specs.Ways.{on, off}
-use borrow.Author.Rules.{rules}
 use Rattle.poolparts.proofs.list_right.Goals as goal
 
 pub returns-then-list_room : goal.returns-then-list_room

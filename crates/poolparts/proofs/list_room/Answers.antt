@@ -3,7 +3,6 @@ use mathlib.Core.Path.{sym, ◌∙◌}
 use borrow.Author.Tests.{lt-ltb, le-ltb}
 use Rattle.poolparts.specs.Tests.{list_room}
 use Rattle.sheetparts.specs.Ways.{on, off}
-use borrow.Author.Rules.{rules}
 use Rattle.poolparts.proofs.list_room.Goals as goal
 
 pub returns-then-n-gt64 : goal.returns-then-n-gt64

@@ -1,6 +1,5 @@
 -- `listed` meets its contract: each way out by its law.
 use Rattle.poolparts.specs.Tests.{listed}
-use borrow.Author.Rules.{rules}
 use Rattle.poolparts.proofs.listed.Goals as goal
 
 pub returns : goal.returns

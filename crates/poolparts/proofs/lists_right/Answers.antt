@@ -2,7 +2,6 @@
 use mathlib.Core.Path.{sym, ◌∙◌}
 use Rattle.poolparts.specs.Tests.{lists_right}
 use Rattle.sheetparts.specs.Ways.{on, off}
-use borrow.Author.Rules.{rules}
 use Rattle.poolparts.proofs.lists_right.Goals as goal
 
 pub returns-then-list_right-2 : goal.returns-then-list_right-2

@@ -2,7 +2,6 @@
 use mathlib.Core.Path.{◌∙◌}
 use native.Mathlib.Omega.{arith}
 use Rattle.poolparts.specs.Ways.{one_place, fair_places}
-use borrow.Author.Rules.{rules}
 use Rattle.poolparts.proofs.places.Goals as goal
 
 pub returns-then-strategy-eq0 : goal.returns-then-strategy-eq0

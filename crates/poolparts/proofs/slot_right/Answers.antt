@@ -3,7 +3,6 @@ use mathlib.Core.Path.{sym, ◌∙◌}
 use borrow.Author.Tests.{eq-eqb, ne_eqb}
 use Rattle.poolparts.specs.Tests.{slot_right}
 use Rattle.sheetparts.specs.Ways.{on, off}
-use borrow.Author.Rules.{rules}
 use Rattle.poolparts.proofs.slot_right.Goals as goal
 
 pub returns-then-n-eq0 : goal.returns-then-n-eq0

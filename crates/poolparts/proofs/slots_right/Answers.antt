@@ -1,11 +1,8 @@
 -- The slots passed are right.
-use borrow.Author.Rules.{rules}
-use Prim.Native.Nat.{◌≤◌, ◌-◌}
-use mathlib.Core.Path.{◌≡◌, refl, sym, ◌∙◌}
+use mathlib.Core.Path.{refl, sym, ◌∙◌}
 use native.Mathlib.Omega.{arith}
-use Rattle.texts.specs.Names.{names_in}
-use Rattle.sheetparts.specs.Loops.{every, turn, out, done}
-use Rattle.poolparts.specs.Tests.{slot_right, slots_right}
+use Rattle.sheetparts.specs.Loops.{turn, out, done}
+use Rattle.poolparts.specs.Tests.{slots_right}
 use Rattle.poolparts.proofs.slots_right.Goals as goal
 
 pub loop-i-init : goal.loop-i-init

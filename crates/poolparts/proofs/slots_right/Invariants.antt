@@ -1,10 +1,8 @@
 -- The slots passed are right.
-use borrow.Author.Rules.{rules}
 use Prim.Native.Nat.{◌≤◌, ◌-◌}
-use mathlib.Core.Path.{◌≡◌, refl, sym, ◌∙◌}
-use native.Mathlib.Omega.{arith}
+use mathlib.Core.Path.{◌≡◌}
 use Rattle.texts.specs.Names.{names_in}
-use Rattle.sheetparts.specs.Loops.{every, turn, out, done}
+use Rattle.sheetparts.specs.Loops.{every}
 use Rattle.poolparts.specs.Tests.{slot_right, slots_right}
 use Rattle.poolparts.proofs.slots_right.Given as goal
 

@@ -1,11 +1,6 @@
 -- The count so far and that of the rest come to the whole.
-use borrow.Author.Rules.{rules}
-use Prim.Native.Nat.{◌≤◌, ◌-◌, ◌+◌}
-use mathlib.Core.Path.{◌≡◌}
-use mathlib.Core.List.{map}
+use Prim.Native.Nat.{◌+◌}
 use native.Mathlib.Omega.{arith}
-use Rattle.pools.specs.Count.{cnt}
-use Rattle.sheetparts.specs.Loops.{up_to}
 use Rattle.sheetparts.specs.Tests.{byte_at}
 use Rattle.poolparts.specs.Tests.{row_at}
 use Rattle.poolparts.specs.Ways.{count_hit, count_miss, count_end}

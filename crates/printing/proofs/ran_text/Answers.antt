@@ -1,7 +1,6 @@
 -- A law for each way out.
 use Rattle.lines.specs.Wrote.{wrote_as}
 use Rattle.printing.specs.Stops.{ran_zero, ran_refused, ran_stopped}
-use borrow.Author.Rules.{rules}
 use Rattle.printing.proofs.ran_text.Goals as goal
 
 pub returns-then-stop-eq0 : goal.returns-then-stop-eq0

@@ -1,5 +1,4 @@
 -- The pool keeps its length from stretch to stretch.
-use borrow.Author.Rules.{rules}
 use mathlib.Core.Path.{◌≡◌}
 use lib.ListN.{length}
 use Rattle.replaycalls.proofs.stretches.Given as goal

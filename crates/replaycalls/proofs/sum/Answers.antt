@@ -1,8 +1,5 @@
 -- The sum stays below the modulus, so that the next product fits.
 use native.Mathlib.Omega.{arith}
-use borrow.Author.Rules.{rules}
-use Prim.Native.Nat.{◌≤◌, ◌<◌, ◌-◌}
-use lib.ListN.{length}
 use Rattle.replaycalls.proofs.sum.Goals as goal
 
 pub overflow_cast-h : goal.overflow_cast-h

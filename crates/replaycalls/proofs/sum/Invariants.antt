@@ -1,6 +1,4 @@
 -- The sum stays below the modulus, so that the next product fits.
-use native.Mathlib.Omega.{arith}
-use borrow.Author.Rules.{rules}
 use Prim.Native.Nat.{◌≤◌, ◌<◌, ◌-◌}
 use lib.ListN.{length}
 use Rattle.replaycalls.proofs.sum.Given as goal

@@ -1,4 +1,3 @@
-use borrow.Author.Rules.{rules}
 use mathlib.Core.Path.{sym, ◌∙◌}
 use Rattle.numbers.specs.Answers.{checked_ends, checked_refused}
 use Rattle.texts.specs.Heads.{read_as}

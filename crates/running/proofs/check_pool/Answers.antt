@@ -2,7 +2,6 @@
 use mathlib.Core.Path.{ap₂, ◌∙◌}
 use Rattle.openings.specs.Order.{first_refusal}
 use Rattle.running.specs.Verdict.{verdict_unfit, right, verdict_sound, verdict_unsound}
-use borrow.Author.Rules.{rules}
 use Rattle.running.proofs.check_pool.Goals as goal
 
 pub returns-then-n-ne0 : goal.returns-then-n-ne0

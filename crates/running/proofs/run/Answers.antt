@@ -1,5 +1,4 @@
 use native.Mathlib.Omega.{arith}
-use borrow.Author.Rules.{rules}
 use mathlib.Core.Path.{refl}
 use Rattle.running.specs.Runs.{run_refused, run_went}
 use Rattle.running.proofs.run.Goals as goal

@@ -1,11 +1,7 @@
 -- What is left of the definition's run; the pool stands before each step.
 use native.Mathlib.Omega.{arith}
-use borrow.Author.Rules.{rules}
-use Prim.Native.Nat.{◌-◌, ◌≤◌}
-use mathlib.Core.Path.{◌≡◌, refl, ◌∙◌}
-use lib.ListN.{length}
-use Rattle.stepping.specs.Standing.{Standing}
-use Rattle.running.specs.Runs.{RunLeft, run_start, run_stopped, run_stands, run_next, run_spent}
+use mathlib.Core.Path.{refl, ◌∙◌}
+use Rattle.running.specs.Runs.{run_start, run_stopped, run_stands, run_next, run_spent}
 use Rattle.running.proofs.run_in.Goals as goal
 
 pub loop-k-init : goal.loop-k-init

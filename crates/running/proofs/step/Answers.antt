@@ -1,5 +1,4 @@
 use native.Mathlib.Omega.{arith}
-use borrow.Author.Rules.{rules}
 use mathlib.Core.Path.{refl}
 use Rattle.running.specs.Verdict.{step_refused, step_went}
 use Rattle.running.proofs.step.Goals as goal

@@ -1,7 +1,6 @@
 -- The places are those that the book's text gives.
 use native.Mathlib.Omega.{arith}
 use Rattle.sheetcheck.specs.Lone.{lone_out}
-use borrow.Author.Rules.{rules}
 use Rattle.sheetcheck.proofs.lone_sound.Goals as goal
 
 pub returns-then-n-eq0 : goal.returns-then-n-eq0

@@ -6,7 +6,6 @@ use lib.ListN.{replicate, get_or-replicate}
 use Rattle.texts.specs.Names.{names_in}
 use Rattle.sheetparts.specs.Tests.{depths_from}
 use Rattle.sheetcheck.specs.Sheets.{head_counts, head_out, room_out, body_out, lows_none}
-use borrow.Author.Rules.{rules}
 use Rattle.sheetcheck.proofs.sheet_sound.Goals as goal
 
 pub room_right-requires : goal.room_right-requires

@@ -1,10 +1,7 @@
 -- The arguments passed are known.
-use borrow.Author.Rules.{rules}
-use Prim.Native.Nat.{◌≤◌, ◌<◌, ◌-◌}
-use mathlib.Core.Path.{◌≡◌}
 use native.Mathlib.Omega.{arith}
 use borrow.Author.Tests.{lt-ltb, le-ltb}
-use Rattle.sheetparts.specs.Loops.{every, turn, out, done}
+use Rattle.sheetparts.specs.Loops.{turn, out, done}
 use Rattle.sheetparts.specs.Tests.{unknown, known_at, args_known}
 use Rattle.sheetparts.proofs.args_known.Goals as goal
 

@@ -1,11 +1,8 @@
 -- The arguments passed are known.
-use borrow.Author.Rules.{rules}
 use Prim.Native.Nat.{◌≤◌, ◌<◌, ◌-◌}
 use mathlib.Core.Path.{◌≡◌}
-use native.Mathlib.Omega.{arith}
-use borrow.Author.Tests.{lt-ltb, le-ltb}
-use Rattle.sheetparts.specs.Loops.{every, turn, out, done}
-use Rattle.sheetparts.specs.Tests.{unknown, known_at, args_known}
+use Rattle.sheetparts.specs.Loops.{every}
+use Rattle.sheetparts.specs.Tests.{known_at, args_known}
 use Rattle.sheetparts.proofs.args_known.Given as goal
 
 abbrev pub invariant-loop-j : goal.invariant-loop-j

@@ -2,7 +2,6 @@
 use mathlib.Core.Path.{sym, ◌∙◌}
 use Rattle.sheetparts.specs.Tests.{body_right, facts_from, depths_from}
 use Rattle.sheetparts.specs.Ways.{on, off}
-use borrow.Author.Rules.{rules}
 use Rattle.sheetparts.proofs.body_right.Goals as goal
 
 pub returns-then-table_right-2 : goal.returns-then-table_right-2

@@ -1,7 +1,6 @@
 -- One law for each kind.
 use mathlib.Core.Path.{sym, ◌∙◌}
 use Rattle.sheetparts.specs.Ways.{arity_yes, arity_no, low_yes, low_no, constant, function, constant_witness, function_witness, nothing}
-use borrow.Author.Rules.{rules}
 use Rattle.sheetparts.proofs.declared.Goals as goal
 
 pub returns-then-symbol-constants : goal.returns-then-symbol-constants

@@ -1,10 +1,8 @@
 -- The depths passed are right.
-use borrow.Author.Rules.{rules}
-use Prim.Native.Nat.{◌≤◌, ◌-◌}
-use mathlib.Core.Path.{◌≡◌, refl}
+use mathlib.Core.Path.{refl}
 use native.Mathlib.Omega.{arith}
 use borrow.Author.Tests.{eq-eqb, ne_eqb}
-use Rattle.sheetparts.specs.Loops.{every, turn, out, done}
+use Rattle.sheetparts.specs.Loops.{turn, out, done}
 use Rattle.sheetparts.specs.Tests.{depth_at, depths_right}
 use Rattle.sheetparts.proofs.depths_right.Goals as goal
 

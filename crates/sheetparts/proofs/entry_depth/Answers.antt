@@ -1,13 +1,8 @@
 -- The arguments from j on give the depth.
 use Rattle.sheetparts.specs.Ways.{deep_taken, deep_left}
-use borrow.Author.Rules.{rules}
-use Prim.Native.Nat.{◌≤◌, ◌<◌, ◌-◌, ◌+◌}
 use mathlib.Core.Path.{◌≡◌}
-use mathlib.Core.List.{map}
 use native.Mathlib.Omega.{arith}
-use Rattle.rules.specs.Bound.{depth_over}
-use Rattle.sheetparts.specs.Loops.{up_to}
-use Rattle.sheetparts.specs.Tests.{byte_at, arg_depth, entry_depth}
+use Rattle.sheetparts.specs.Tests.{arg_depth, entry_depth}
 use Rattle.sheetparts.specs.Ways.{none_deep}
 use Rattle.sheetparts.proofs.entry_depth.Goals as goal
 

@@ -1,14 +1,10 @@
 -- The arguments from j on give the depth.
-use Rattle.sheetparts.specs.Ways.{deep_taken, deep_left}
-use borrow.Author.Rules.{rules}
-use Prim.Native.Nat.{◌≤◌, ◌<◌, ◌-◌, ◌+◌}
+use Prim.Native.Nat.{◌≤◌, ◌<◌, ◌+◌}
 use mathlib.Core.Path.{◌≡◌}
 use mathlib.Core.List.{map}
-use native.Mathlib.Omega.{arith}
 use Rattle.rules.specs.Bound.{depth_over}
 use Rattle.sheetparts.specs.Loops.{up_to}
-use Rattle.sheetparts.specs.Tests.{byte_at, arg_depth, entry_depth}
-use Rattle.sheetparts.specs.Ways.{none_deep}
+use Rattle.sheetparts.specs.Tests.{byte_at, arg_depth}
 use Rattle.sheetparts.proofs.entry_depth.Given as goal
 
 abbrev pub invariant-loop-j : goal.invariant-loop-j

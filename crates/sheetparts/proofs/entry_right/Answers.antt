@@ -3,7 +3,6 @@ use mathlib.Core.Path.{sym, ◌∙◌}
 use borrow.Author.Tests.{lt-ltb, le-ltb}
 use Rattle.sheetparts.specs.Tests.{entry_right}
 use Rattle.sheetparts.specs.Ways.{on, off}
-use borrow.Author.Rules.{rules}
 use Rattle.sheetparts.proofs.entry_right.Goals as goal
 
 pub returns-then-byte-bound : goal.returns-then-byte-bound

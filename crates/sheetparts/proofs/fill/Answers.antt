@@ -1,12 +1,9 @@
 -- The keys from i on give the least depths.
 use lib.ListN.{length-set}
 use Rattle.sheetparts.specs.Ways.{keys_kept, keys_fall}
-use borrow.Author.Rules.{rules}
-use Prim.Native.Nat.{◌≤◌, ◌-◌}
 use mathlib.Core.Path.{◌≡◌}
 use native.Mathlib.Omega.{arith}
-use lib.ListN.{length}
-use Rattle.sheetparts.specs.Tests.{Lows, key_value, key_depth}
+use Rattle.sheetparts.specs.Tests.{key_value, key_depth}
 use Rattle.sheetparts.proofs.fill.Goals as goal
 
 pub loop-i-preserved-then-deep-t : goal.loop-i-preserved-then-deep-t

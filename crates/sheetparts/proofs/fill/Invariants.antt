@@ -1,12 +1,8 @@
 -- The keys from i on give the least depths.
-use lib.ListN.{length-set}
-use Rattle.sheetparts.specs.Ways.{keys_kept, keys_fall}
-use borrow.Author.Rules.{rules}
-use Prim.Native.Nat.{◌≤◌, ◌-◌}
+use Prim.Native.Nat.{◌≤◌}
 use mathlib.Core.Path.{◌≡◌}
-use native.Mathlib.Omega.{arith}
 use lib.ListN.{length}
-use Rattle.sheetparts.specs.Tests.{Lows, key_value, key_depth}
+use Rattle.sheetparts.specs.Tests.{Lows}
 use Rattle.sheetparts.proofs.fill.Given as goal
 
 abbrev pub invariant-loop-i : goal.invariant-loop-i

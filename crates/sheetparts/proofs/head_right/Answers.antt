@@ -3,7 +3,6 @@ use mathlib.Core.Path.{sym, ◌∙◌}
 use borrow.Author.Tests.{lt-ltb, le-ltb}
 use Rattle.sheetparts.specs.Tests.{head_right}
 use Rattle.sheetparts.specs.Ways.{on, off}
-use borrow.Author.Rules.{rules}
 use Rattle.sheetparts.proofs.head_right.Goals as goal
 
 pub returns-then-num16-elements : goal.returns-then-num16-elements

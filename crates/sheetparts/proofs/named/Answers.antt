@@ -3,7 +3,6 @@ use mathlib.Core.Path.{sym, ◌∙◌}
 use borrow.Author.Tests.{eq-eqb, ne_eqb}
 use Rattle.sheetparts.specs.Tests.{named}
 use Rattle.sheetparts.specs.Ways.{on, off}
-use borrow.Author.Rules.{rules}
 use Rattle.sheetparts.proofs.named.Goals as goal
 
 pub returns-then-kind-eq0 : goal.returns-then-kind-eq0

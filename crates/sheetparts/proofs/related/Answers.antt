@@ -1,6 +1,5 @@
 -- `related` meets its contract: each way out by its law.
 use Rattle.sheetparts.specs.Ways.{arity_yes, arity_no}
-use borrow.Author.Rules.{rules}
 use Rattle.sheetparts.proofs.related.Goals as goal
 
 pub returns-then-symbol-relations : goal.returns-then-symbol-relations

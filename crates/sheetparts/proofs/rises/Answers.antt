@@ -3,7 +3,6 @@ use mathlib.Core.Path.{sym}
 use borrow.Author.Tests.{eq-eqb, ne_eqb}
 use Rattle.sheetparts.specs.Tests.{rises}
 use Rattle.sheetparts.specs.Ways.{on, off}
-use borrow.Author.Rules.{rules}
 use Rattle.sheetparts.proofs.rises.Goals as goal
 
 pub returns-then-i-eq0 : goal.returns-then-i-eq0

@@ -3,7 +3,6 @@ use mathlib.Core.Path.{sym, ◌∙◌}
 use borrow.Author.Tests.{lt-ltb, le-ltb}
 use Rattle.sheetparts.specs.Tests.{spare}
 use Rattle.sheetparts.specs.Ways.{on, off}
-use borrow.Author.Rules.{rules}
 use Rattle.sheetparts.proofs.spare.Goals as goal
 
 pub returns-then-n-gt4 : goal.returns-then-n-gt4

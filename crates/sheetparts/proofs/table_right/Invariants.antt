@@ -1,12 +1,9 @@
 -- The entries passed are right and rise.
-use borrow.Author.Rules.{rules}
 use Prim.Native.Nat.{◌≤◌, ◌-◌}
-use mathlib.Core.Path.{◌≡◌, refl, sym, ◌∙◌}
-use native.Mathlib.Omega.{arith}
+use mathlib.Core.Path.{◌≡◌}
 use Rattle.texts.specs.Names.{names_in}
-use Rattle.sheetparts.specs.Loops.{every, turn, out, done}
+use Rattle.sheetparts.specs.Loops.{every}
 use Rattle.sheetparts.specs.Tests.{entry_at, table_right}
-use Rattle.sheetparts.specs.Ways.{on, off}
 use Rattle.sheetparts.proofs.table_right.Given as goal
 
 abbrev pub invariant-loop-i : goal.invariant-loop-i

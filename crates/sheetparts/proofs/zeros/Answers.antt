@@ -1,11 +1,8 @@
 -- The bytes passed are zero.
 use Rattle.sheetparts.specs.Loops.{turn, out, done}
-use borrow.Author.Rules.{rules}
-use Prim.Native.Nat.{◌≤◌, ◌-◌}
-use mathlib.Core.Path.{◌≡◌, refl}
+use mathlib.Core.Path.{refl}
 use native.Mathlib.Omega.{arith}
 use borrow.Author.Tests.{eq-eqb, ne_eqb}
-use Rattle.sheetparts.specs.Loops.{every}
 use Rattle.sheetparts.specs.Tests.{zero_at, zeros}
 use Rattle.sheetparts.proofs.zeros.Goals as goal
 

@@ -1,10 +1,6 @@
 -- The bytes passed are zero.
-use Rattle.sheetparts.specs.Loops.{turn, out, done}
-use borrow.Author.Rules.{rules}
 use Prim.Native.Nat.{◌≤◌, ◌-◌}
-use mathlib.Core.Path.{◌≡◌, refl}
-use native.Mathlib.Omega.{arith}
-use borrow.Author.Tests.{eq-eqb, ne_eqb}
+use mathlib.Core.Path.{◌≡◌}
 use Rattle.sheetparts.specs.Loops.{every}
 use Rattle.sheetparts.specs.Tests.{zero_at, zeros}
 use Rattle.sheetparts.proofs.zeros.Given as goal

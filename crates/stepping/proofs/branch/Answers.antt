@@ -1,6 +1,5 @@
 -- Each way out of a branch, in the numbers that the code has.
 use native.Mathlib.Omega.{arith}
-use borrow.Author.Rules.{rules}
 use mathlib.Core.Path.{refl, ◌∙◌, subst}
 use Rattle.rules.specs.Reading.{num}
 use Rattle.texts.specs.Names.{count_at}

@@ -1,5 +1,4 @@
 use native.Mathlib.Omega.{arith}
-use borrow.Author.Rules.{rules}
 use mathlib.Core.Path.{subst}
 use Prim.Native.Nat.{◌+◌}
 use lib.ListN.{length}

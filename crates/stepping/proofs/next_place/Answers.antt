@@ -1,5 +1,4 @@
 use native.Mathlib.Omega.{arith}
-use borrow.Author.Rules.{rules}
 use Rattle.stepping.specs.Heads.{place_linear, place_wraps, place_next}
 use Rattle.stepping.proofs.next_place.Goals as goal
 

@@ -1,5 +1,4 @@
 use native.Mathlib.Omega.{arith}
-use borrow.Author.Rules.{rules}
 use Rattle.stepping.specs.Heads.{room_slots, room_numbers, room_is}
 use Rattle.stepping.proofs.room_for.Goals as goal
 

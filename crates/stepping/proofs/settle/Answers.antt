@@ -1,4 +1,3 @@
-use borrow.Author.Rules.{rules}
 use Rattle.rules.specs.Calls.{bound_of}
 use Rattle.stepping.specs.Settling.{settled}
 use Rattle.stepping.proofs.settle.Goals as goal

@@ -1,6 +1,5 @@
 -- The first waiting sheet loaded and evaluated, and each way out.
 use native.Mathlib.Omega.{arith}
-use borrow.Author.Rules.{rules}
 use Prim.Native.Nat.{◌+◌, ◌*◌, ◌≤◌}
 use mathlib.Core.Path.{◌≡◌, sym, ◌∙◌, subst}
 use lib.ListN.{length, get_or}

@@ -1,10 +1,8 @@
 -- The front is the copy so far.
-use borrow.Author.Rules.{rules}
-use Prim.Native.Nat.{◌≤◌, ◌-◌}
 use mathlib.Core.Path.{◌≡◌, refl}
 use native.Mathlib.Omega.{arith}
-use lib.ListN.{length, length-set}
-use Rattle.takings.specs.Moves.{copied, copy_none, copy_more}
+use lib.ListN.{length-set}
+use Rattle.takings.specs.Moves.{copy_none, copy_more}
 use Rattle.takings.proofs.copy_slot.Goals as goal
 
 pub loop-j-init : goal.loop-j-init

@@ -1,10 +1,8 @@
 -- The front is the copy so far.
-use borrow.Author.Rules.{rules}
 use Prim.Native.Nat.{◌≤◌, ◌-◌}
-use mathlib.Core.Path.{◌≡◌, refl}
-use native.Mathlib.Omega.{arith}
-use lib.ListN.{length, length-set}
-use Rattle.takings.specs.Moves.{copied, copy_none, copy_more}
+use mathlib.Core.Path.{◌≡◌}
+use lib.ListN.{length}
+use Rattle.takings.specs.Moves.{copied}
 use Rattle.takings.proofs.copy_slot.Given as goal
 
 abbrev pub invariant-loop-j : goal.invariant-loop-j

@@ -1,6 +1,5 @@
 -- Copied, cleared, and gone from its list.
 use Rattle.takings.specs.Take.{popped_behind}
-use borrow.Author.Rules.{rules}
 use Rattle.takings.proofs.give.Goals as goal
 
 pub returns : goal.returns

@@ -3,7 +3,6 @@ use mathlib.Core.Path.{sym, ◌∙◌}
 use Rattle.numbers.specs.Answers.{checked_ends, checked_refused}
 use Rattle.texts.specs.Heads.{read_as}
 use Rattle.takings.specs.Calls.{take_going_lem, take_refused}
-use borrow.Author.Rules.{rules}
 use Rattle.takings.proofs.take.Goals as goal
 
 pub take_checked-requires : goal.take_checked-requires

@@ -3,7 +3,6 @@ use mathlib.Core.Path.{ap, ◌∙◌}
 use lib.Dec.{ltb}
 use Rattle.openings.specs.Order.{first_refusal}
 use Rattle.takings.specs.Calls.{rest_unfit, right, ready, known_list, rest_going, rest_unsound}
-use borrow.Author.Rules.{rules}
 use Rattle.takings.proofs.take_checked.Goals as goal
 
 pub returns-then-n-ne0 : goal.returns-then-n-ne0

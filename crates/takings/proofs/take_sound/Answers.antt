@@ -1,7 +1,6 @@
 -- `take_sound` meets its contract: each way out by its law.
 use native.Mathlib.Omega.{arith}
 use Rattle.takings.specs.Take.{take_empty, take_short, take_done, first_fits, any_book}
-use borrow.Author.Rules.{rules}
 use Rattle.takings.proofs.take_sound.Goals as goal
 
 pub returns-then-byte-eq0 : goal.returns-then-byte-eq0

@@ -4,7 +4,6 @@ use Rattle.sheets.specs.Form.{limits_of}
 use lib.ListN.{take}
 use Rattle.rules.specs.Calls.{bound_of}
 use Rattle.telling.specs.Judging.{allowed_short, allowed_fact, allowed_same}
-use borrow.Author.Rules.{rules}
 use Rattle.telling.proofs.allowed.Goals as goal
 
 pub returns-then-text-at-lt4 : goal.returns-then-text-at-lt4

@@ -2,7 +2,6 @@ use Rattle.sheets.specs.Form.{limits_of}
 use lib.ListN.{take}
 use Rattle.rules.specs.Calls.{bound_of}
 use Rattle.telling.specs.Judging.{judged_cut, judged_seen, judged_new}
-use borrow.Author.Rules.{rules}
 use Rattle.telling.proofs.judge.Goals as goal
 
 pub returns-then-observed_here : goal.returns-then-observed_here

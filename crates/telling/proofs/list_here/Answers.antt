@@ -7,7 +7,6 @@ use lib.ListN.{get_or}
 use Rattle.base.specs.Lists.{firsts}
 use Rattle.packing.specs.Replace.{value_of}
 use Rattle.sheets.specs.Parts.{part_front}
-use borrow.Author.Rules.{rules}
 use Rattle.telling.proofs.list_here.Goals as goal
 
 pub returns : goal.returns

@@ -8,7 +8,6 @@ use borrow.Rule.Slice.PartMut.{mid_len}
 use Rattle.tables.specs.Table.{Rising}
 use Rattle.look.specs.Answers.{IsObserved}
 use Rattle.sheets.specs.Parts.{part_front}
-use borrow.Author.Rules.{rules}
 use Rattle.telling.proofs.observed_here.Goals as goal
 
 pub observed-requires : goal.observed-requires

@@ -8,7 +8,6 @@ use borrow.Rule.Slice.PartMut.{mid_len}
 use Rattle.tables.specs.Table.{look_in, is_some, Rising}
 use Rattle.sheets.specs.Parts.{part_front, part_length}
 use Rattle.telling.specs.Facts.{after, exit_put, exit_full}
-use borrow.Author.Rules.{rules}
 use Rattle.telling.proofs.put_fact.Goals as goal
 
 pub contains-requires : goal.contains-requires

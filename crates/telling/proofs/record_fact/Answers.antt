@@ -2,7 +2,6 @@ use mathlib.Core.Path.{sym}
 use Rattle.sheets.specs.Form.{limits_of}
 use lib.ListN.{take}
 use Rattle.telling.specs.Ways.{fact_full, fact_large, fact_put}
-use borrow.Author.Rules.{rules}
 use Rattle.telling.proofs.record_fact.Goals as goal
 
 pub returns-then-p-ge72057594037927936 : goal.returns-then-p-ge72057594037927936

@@ -1,7 +1,6 @@
 use Rattle.sheets.specs.Form.{limits_of}
 use lib.ListN.{take}
 use Rattle.telling.specs.Ways.{literal_short}
-use borrow.Author.Rules.{rules}
 use Rattle.telling.proofs.record_literal.Goals as goal
 
 pub returns-then-text-at-lt4 : goal.returns-then-text-at-lt4

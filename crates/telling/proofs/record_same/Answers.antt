@@ -2,7 +2,6 @@ use Rattle.sheets.specs.Form.{limits_of}
 use lib.ListN.{take}
 use Rattle.telling.specs.Stays.{merged_sturdy, sturdy_orderly}
 use Rattle.telling.specs.Ways.{same_full, same_full_2, same_merged}
-use borrow.Author.Rules.{rules}
 use Rattle.telling.proofs.record_same.Goals as goal
 
 pub enter_term-requires-in-At : goal.enter_term-requires-in-At

@@ -2,7 +2,6 @@ use Rattle.sheets.specs.Form.{limits_of}
 use lib.ListN.{take}
 use Rattle.rules.specs.Calls.{bound_of}
 use Rattle.telling.specs.Judging.{told_cut, told_seen, told_new, told_over}
-use borrow.Author.Rules.{rules}
 use Rattle.telling.proofs.tell.Goals as goal
 
 pub returns-then-record_literal : goal.returns-then-record_literal
