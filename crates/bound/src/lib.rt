@@ -17,14 +17,14 @@ use look::Look;
 use words::num16;
 
 // A depth and the place behind what has it; or the text is too short.
-#[derive(Drop)]
+#[derive(Clone, Copy)]
 pub enum Depth {
     Short,
     Of(u64, usize),
 }
 
 // A term that is put to the bound: refused; known, or new and admitted, with the place behind it.
-#[derive(Drop)]
+#[derive(Clone, Copy)]
 pub enum Asked {
     Refused,
     Known(usize),

@@ -27,7 +27,8 @@ use Rattle.soundness.specs.Book.{WfLiteral, WfDisjunct, WfSequent, read_wf}
 use Rattle.soundness.specs.Enter.{Tidy, Means, enter_entered}
 use Rattle.soundness.specs.Child.{Good, tell_good, head_means, head_length, domain_known}
 use Rattle.congruence.proofs.Merged.{merge_any_order}
-use Rattle.congruence.proofs.History.{Living, enter_living, enters_living, merge_living}
+use Rattle.congruence.specs.History.{Living}
+use Rattle.congruence.proofs.History.{enter_living, enters_living, merge_living}
 use Rattle.congruence.specs.Rust.{rust_merge}
 use Rattle.congruence.proofs.Rust.{rust_is_merge}
 use Rattle.congruence.specs.Children.{Merging, child_by, recorded_by, tell_by, tells_by}

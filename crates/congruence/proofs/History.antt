@@ -3,7 +3,6 @@
 use Rattle.std.specs.Prelude.{◌≡◌, refl, ℕ, ◌≤◌, ◌<◌, ◌⊎◌, ◌↔◌, List, get_or, T}
 use Rattle.std.proofs.Common.{sym, ◌∙◌, le_refl, arith, inl, inr}
 use Rattle.std.proofs.Math.Path.{ap, subst}
-use Rattle.base.specs.Lists.{All}
 use Rattle.base.specs.BranchLaws.{case_o_elim}
 use Rattle.base.specs.ListLaws.{all_all, all_in, In}
 use Rattle.rules.specs.Book.{Term, var, con, app, Terms, nil, cons, Names}
@@ -19,13 +18,11 @@ use Rattle.soundness.specs.Neat.{Neat}
 use Rattle.congruence.specs.Forced.{Congruence}
 use Rattle.congruence.specs.Images.{entry_image}
 use Rattle.congruence.specs.Rounds.{merge_after}
-use Rattle.congruence.proofs.Survivors.{survivor, Smallest, survivor_smallest}
-use Rattle.congruence.proofs.Merged.{Merged, merge_merged}
-
-pub record Living (now : History) (m : Model) : Type 0 where
-  pub twice : (e : ℕ) → now (now e) ≡ now e
-  pub own : All (Yields (λ v. now v ≡ v)) m.keys
-  pub new : (e : ℕ) → m.created ≤ e → now e ≡ e
+use Rattle.congruence.specs.Survivors.{survivor, Smallest}
+use Rattle.congruence.specs.History.{Living}
+use Rattle.congruence.proofs.Survivors.{survivor_smallest}
+use Rattle.congruence.specs.Merged.{Merged}
+use Rattle.congruence.proofs.Merged.{merge_merged}
 
 -- ---- recording
 

@@ -9,35 +9,19 @@ use Rattle.rules.specs.Book.{Names}
 use Rattle.rules.specs.Sheet.{Entry, Model, known, Limits}
 use Rattle.rules.specs.Bound.{History}
 use Rattle.rules.specs.Merge.{Pair, lowered, merge}
-use Rattle.laws.specs.Tables.{KeysRise, FactsRise}
 use Rattle.laws.specs.MergeBy.{Orders, EachReorders, merge_into_by, merge_by}
 use Rattle.laws.proofs.MergeByLaws.{merge_has}
 use Rattle.soundness.specs.Tools.{known_yielded}
 use Rattle.soundness.specs.Join.{merge_by_linked}
 use Rattle.soundness.specs.Neat.{Neat, merge_by_small, merge_by_listed}
-use Rattle.congruence.specs.Forced.{Survives}
 use Rattle.congruence.proofs.Forced.{survivors_unique, survives_swap}
+use Rattle.congruence.specs.Survivors.{survivor}
+use Rattle.congruence.specs.Merged.{MergedTables, Merged}
 use Rattle.congruence.specs.Images.{entry_image, fact_image, Images}
 use Rattle.congruence.specs.Rising.{keys_unique, facts_unique}
 use Rattle.congruence.specs.Rounds.{after_history, merge_by_ends, merge_by_after, merge_after}
-use Rattle.congruence.proofs.Survivors.{way_survives, way_keys, way_facts, merge_by_way, survivor}
-use Rattle.congruence.specs.Depths.{LeastDepths, depths_unique, neat_depths}
-
--- ---- the law
-
--- Of merging a and b in m: h says what each element becomes, and keys and facts of n are the images, in order.
-pub record MergedTables (a b : ℕ) (m n : Model) (h : ℕ → ℕ) : Type 1 where
-  pub survives : Survives a b m.keys h
-  pub keys : Images (entry_image h) m.keys n.keys
-  pub keys_rise : KeysRise n.keys
-  pub facts : Images (fact_image h) m.facts n.facts
-  pub facts_rise : FactsRise n.facts
-
--- The whole sheet: none is created, and depths are least.
-pub record Merged (a b : ℕ) (m n : Model) (h : ℕ → ℕ) : Type 1 where
-  pub tables : MergedTables a b m n h
-  pub created : n.created ≡ m.created
-  pub depths : LeastDepths n
+use Rattle.congruence.proofs.Survivors.{way_survives, way_keys, way_facts, merge_by_way}
+use Rattle.congruence.specs.Depths.{depths_unique, neat_depths}
 
 -- ---- it determines the sheet
 

@@ -25,7 +25,7 @@ use Rattle.soundness.specs.Neat.{Neat}
 use Rattle.soundness.specs.Model.{sound_neat}
 use Rattle.congruence.specs.Rounds.{rename_has, through_if}
 use Rattle.congruence.proofs.Merged.{merge_any_order}
-use Rattle.congruence.proofs.History.{Living}
+use Rattle.congruence.specs.History.{Living}
 use Rattle.congruence.specs.Lowering.{Waits, rust_lowers, round_waits}
 use Rattle.congruence.specs.Rust.{keys_before, newest_first, rust_file, rust_into, rust_merge, rust_refile, rust_rounds}
 

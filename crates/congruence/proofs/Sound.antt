@@ -11,9 +11,11 @@ use Rattle.laws.specs.MergeBy.{Orders, EachReorders, merge_by}
 use Rattle.soundness.specs.Model.{sound_neat, neat_sound}
 use Rattle.congruence.specs.Forced.{Forced}
 use Rattle.congruence.specs.Images.{entry_image, fact_image, Images}
-use Rattle.congruence.proofs.Survivors.{survivor, merge_is_congruence, Smallest, survivor_smallest, merge_keys, merge_facts}
+use Rattle.congruence.specs.Survivors.{survivor, Smallest}
+use Rattle.congruence.specs.Merged.{Merged}
+use Rattle.congruence.proofs.Survivors.{merge_is_congruence, survivor_smallest, merge_keys, merge_facts}
 use Rattle.congruence.specs.Within.{CongruenceOn, forced_within}
-use Rattle.congruence.proofs.Merged.{Merged, merge_neat, merge_merged, merged_is_merge, merge_any_order, merge_order_free}
+use Rattle.congruence.proofs.Merged.{merge_neat, merge_merged, merged_is_merge, merge_any_order, merge_order_free}
 
 module _ (lim : Limits) (d : Names) (m : Model) (t : T (sound_model lim d m)) (a b : ℕ) where
   rise : KeysRise m.keys

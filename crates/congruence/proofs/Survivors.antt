@@ -1,7 +1,7 @@
 -- What merging makes of each element is its survivor (Forced), and keys and facts of the merged sheet are just the survivors' images
 -- of those that were there: what the rounds keep (Way) says so when no pair waits, for then colours are the elements themselves.
 -- A merge by any order comes there, and `merge` is one.
-use Rattle.std.specs.Prelude.{◌≡◌, refl, ℕ, ◌≤◌, ◌↔◌, []}
+use Rattle.std.specs.Prelude.{◌≡◌, refl, ℕ, ◌↔◌, []}
 use Rattle.std.proofs.Common.{sym, ◌∙◌, subst}
 use Rattle.std.proofs.Math.Option.{some, some-injective}
 use Rattle.base.specs.Lists.{All, Some}
@@ -15,6 +15,7 @@ use Rattle.laws.proofs.MergeByLaws.{merge_has}
 use Rattle.soundness.specs.Tools.{in_has, find_in}
 use Rattle.congruence.specs.Forced.{Forced, alike_args, Survives}
 use Rattle.congruence.proofs.Forced.{one_survivor, survivor_stays, survivor_least}
+use Rattle.congruence.specs.Survivors.{survivor, Smallest}
 use Rattle.congruence.specs.Images.{key_image, entry_image, fact_image, Images, images_are}
 use Rattle.congruence.specs.Rounds.{merge_by_ends, merge_by_after}
 use Rattle.congruence.specs.Way.{There, WayTo, way_skip, way_round, way_start}
@@ -62,17 +63,6 @@ merge_by_way order next ro rn a b m g now =
     a b m (λ e. e) (way_start a b m g))
 
 -- ---- merge
-
--- What an element of the sheet is after a merge of a and b.
-unfoldable pub survivor : ℕ → ℕ → Model → ℕ → ℕ
-survivor a b m = (merge a b m (λ e. e)).1
-
--- The survivor of x is no higher than x, survives itself, must be one with x, and is no higher than whatever else must.
-pub record Smallest (a b : ℕ) (m : Model) (x : ℕ) : Type 1 where
-  pub below : survivor a b m x ≤ x
-  pub own : survivor a b m (survivor a b m x) ≡ survivor a b m x
-  pub in_class : Forced a b m.keys x (survivor a b m x)
-  pub least : (y : ℕ) → Forced a b m.keys x y → survivor a b m x ≤ y
 
 module _ (a b : ℕ) (m : Model) (g : KeysRise m.keys) where
   merge_way : (now : History) → WayTo a b m (merge a b m now).0 (survivor a b m) []

@@ -1,6 +1,6 @@
 -- The merges that a step makes. A child on its way need not be within the limits: its size is tested (15), and the literals behind
 -- are told all the same. But it is neat with its own sizes as limits, and what an identity merges are two of its elements; so each
--- merge of each child of a sound sheet is the same whatever the order of keys and pairs, and the Rust's is one.
+-- merge of each child of a sound sheet is the same whatever the order of keys and pairs, and the Rust's is one (proofs/Children).
 -- Said of the children: those made by another way of merging, in place of `merge`, are the step's.
 use Rattle.std.specs.Prelude.{ℕ, true, false, ◌||◌, length}
 use mathlib.Core.List.{List, [], ◌∷◌}

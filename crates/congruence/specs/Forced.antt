@@ -1,6 +1,6 @@
 -- Which elements must become one when two do: those that every congruence of the keys relates that relates the two.
 -- A survivor function takes each element to the smallest that must become one with it. There is one such function: of two, each
--- takes an element no higher than the other does, for it does not tell the element from what the other makes of it.
+-- takes an element no higher than the other does, for it does not tell the element from what the other makes of it (proofs/Forced).
 use Rattle.std.specs.Prelude.{◌≡◌, refl, ℕ, ◌≤◌}
 use Rattle.std.proofs.Common.{sym, ap₂, subst, arith}
 use mathlib.Core.List.{List, [], ◌∷◌, map, head-eq_of_cons-eq, tail-eq_of_cons-eq}

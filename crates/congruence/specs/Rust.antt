@@ -1,5 +1,5 @@
--- The Rust's merging (`merge`, `reduce_rewrites` and `lower` in impl/basic.rs), written out, and that it makes of a sound sheet what
--- `merge` does. A round of it, line by line:
+-- The Rust's merging (`merge`, `reduce_rewrites` and `lower` in impl/basic.rs), written out; that it makes of a sound sheet what
+-- `merge` does is in proofs/Rust. A round of it, line by line:
 --   pending.pop()               the pair that was pushed last is taken: the first of the list, for the end of the Rust's vector is the
 --                               front of the list here.
 --   history(&a), history(&b)    pairs wait as they were found, and are looked up when they are taken, in the child's history. One

@@ -5,9 +5,9 @@ use Rattle.rules.specs.Book.{rules}
 use Rattle.rules.specs.Reading.{got, read_book}
 use Rattle.rules.specs.Calls.{open_call}
 use Rattle.rules.specs.Arrangement.{Arrangement, Keeps}
-use Rattle.demands.specs.Worlds.{running, World, left, ran, nothing, next, begun, Empty}
+use Rattle.demands.specs.Worlds.{running, left, ran, nothing, next, begun, Empty}
 use Rattle.demands.specs.Demands.{demand_three}
-use Rattle.demands.specs.Example.{refuted, book, text, opened, ran_once}
+use Rattle.demands.specs.Example.{world, refuted, book, text, opened, ran_once}
 
 pub text_reads : read_book text ≡ got book (length text)
 unfolding ran_once
@@ -26,9 +26,6 @@ text_opens = refl
 pub run_stops : (ran_once.stop ≡ 14) × (ran_once.steps ≡ 4)
 unfolding ran_once
 run_stops = (refl, refl)
-
-abbrev pub world : World
-world = left ran_once.pool (begun opened)
 
 pub world_empty : Empty world
 unfolding ran_once left begun

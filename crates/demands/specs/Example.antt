@@ -1,9 +1,10 @@
 -- Demand 3 on the bytes of a book: no arrangement keeps its rules, for its run fails in every branch. It is opened in zeros for two
--- slots and run; that nothing is left is computed on the bytes, and the rest is the theorem.
+-- slots and run; that nothing is left is computed on the bytes, and the rest is the theorem (proofs/Example).
 use Rattle.std.specs.Prelude.{ℕ, List, [], ◌∷◌, replicate}
 use Rattle.rules.specs.Book.{var, same, Sequent, Book}
 use Rattle.rules.specs.Reading.{Bytes}
 use Rattle.rules.specs.Calls.{open_call, RunOutcome, run_call}
+use Rattle.demands.specs.Worlds.{World, left, begun}
 use Rattle.rules.specs.Cases.{a, b, f, P, R, S, plain, rule}
 use Rattle.rules.specs.ByteCorners.{answered}
 
@@ -48,3 +49,6 @@ opened = (open_call text (replicate 4464 0) 0 0).pool
 unfoldable pub ran_once : RunOutcome
 unfolding opened text answered
 ran_once = run_call text opened 0 0 100
+
+abbrev pub world : World
+world = left ran_once.pool (begun opened)

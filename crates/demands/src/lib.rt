@@ -1,2 +1,2 @@
-// demands: the demands as theorems over the definitions. It has no code: see specs/.
+// demands: the demands as theorems over the definitions. It has no code: see specs/ and proofs/.
 #![tactic(auto)]

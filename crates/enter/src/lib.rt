@@ -17,14 +17,14 @@ use packing::{argument, count};
 use words::num16;
 
 // An element, or a packed key, and the place behind its text; or there is no room.
-#[derive(Drop)]
+#[derive(Clone, Copy)]
 pub enum Entered {
     Full,
     At(u64, usize),
 }
 
 // What stands first in a term: too little, a variable's or a constant's element (256 where there is no room), a function and its arity.
-#[derive(Drop)]
+#[derive(Clone, Copy)]
 pub enum Head {
     Short,
     Leaf(u64),

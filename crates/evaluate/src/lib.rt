@@ -13,7 +13,7 @@ use firing::first_choice;
 use skips::{skip_sequent, skip_sequents};
 
 // Nothing fires; or the number of the sequent that does, its place and the place behind it.
-#[derive(Drop)]
+#[derive(Clone, Copy)]
 pub enum Fired {
     Nothing,
     At(u64, usize, usize),

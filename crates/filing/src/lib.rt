@@ -14,7 +14,7 @@ ghost use Rattle.filing.specs.File.{Filing, Refiled, Refacted};
 use tables::{look_last, put_last};
 
 // Where the table ends, and where the stack of pairs begins.
-#[derive(Drop)]
+#[derive(Clone, Copy)]
 pub struct Ends {
     pub count: usize,
     pub top: usize,

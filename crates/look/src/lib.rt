@@ -13,21 +13,21 @@ use domains::known;
 use words::num16;
 
 // The element of a term and the place behind it, or none.
-#[derive(Drop)]
+#[derive(Clone, Copy)]
 pub enum Look {
     Missing,
     Elem(u64, usize),
 }
 
 // The packed key of an argument list and the place behind it, or none.
-#[derive(Drop)]
+#[derive(Clone, Copy)]
 pub enum Args {
     Missing,
     Packed(u64, usize),
 }
 
 // What stands first in a term: too little, a variable or a constant and its element (256 for none), a function and its arity.
-#[derive(Drop)]
+#[derive(Clone, Copy)]
 pub enum Head {
     Short,
     Leaf(u64),

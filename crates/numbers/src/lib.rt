@@ -15,20 +15,20 @@ ghost use Rattle.numbers.specs.Answers.{checked, value, ValueIn};
 
 use words::{byte, num16, rest};
 
-#[derive(Drop)]
+#[derive(Clone, Copy)]
 pub enum Value {
     Is(u64, usize),
     Fault(u32, usize),
 }
 
-#[derive(Drop)]
+#[derive(Clone, Copy)]
 pub enum Checked {
     Ends(usize),
     Refused(u32, usize),
 }
 
 // A reader over the book keeps the book and its place. It does not move: the place behind a number is in the answer.
-#[derive(Drop)]
+#[derive(Clone, Copy)]
 pub struct Reader<'a> {
     pub book: &'a [u8],
     pub at: usize,

@@ -82,7 +82,7 @@ pub fn step(book: &[u8], pool: &mut [u8], bound: u32, number: u32) -> u32
 
 // The stop of a run, and the number of steps made.
 #[repr(C)]
-#[derive(Drop)]
+#[derive(Clone, Copy)]
 pub struct Ran {
     pub stop: u32,
     pub steps: u32,

@@ -45,7 +45,7 @@ fn set_history(t: &mut [u64], n: usize)
 }
 
 // How much of each region a sheet uses.
-#[derive(Drop)]
+#[derive(Clone, Copy)]
 pub struct Counts {
     pub created: usize,
     pub keys: usize,

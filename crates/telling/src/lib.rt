@@ -20,7 +20,7 @@ use merge::merge;
 use words::num16;
 
 // A literal before it is told: skipped, observed already, or new.
-#[derive(Drop)]
+#[derive(Clone, Copy)]
 pub enum Judged {
     Cut,
     Seen,
@@ -28,7 +28,7 @@ pub enum Judged {
 }
 
 // What has become of a child: was a literal skipped, and did it need more room than there is?
-#[derive(Drop)]
+#[derive(Clone, Copy)]
 pub struct Gone {
     pub cut: bool,
     pub over: bool,

@@ -11,7 +11,7 @@ ghost use Rattle.terms.specs.Head.{application_at, args_at, headed, leaf_of};
 use counts::{constants, function_arity, functions};
 use numbers::{Checked, Value, read_declared, read_number};
 
-#[derive(Drop)]
+#[derive(Clone, Copy)]
 pub enum Head {
     Leaf(usize),
     Applied(u64, usize),
