@@ -190,8 +190,8 @@ module _ (lim : Limits) (b : Book) (g : SmallNames b.names) (few : length b.sequ
     slots = all_at (StorableSheet lim) blank s.slots (λ j _. storable_at j);
   }
 
-  byte_at : lim.elements ≤ 256 → (j : ℕ) → ByteSheet (sheet_at s j)
-  byte_at l j = elim (dec_le 1 (cnt j (used s))) [
+  byte_at_lem : lim.elements ≤ 256 → (j : ℕ) → ByteSheet (sheet_at s j)
+  byte_at_lem l j = elim (dec_le 1 (cnt j (used s))) [
     | yes k ↦ byte_model lim b.names g (sheet_at s j).model (neat_at j k) l
     | no k ↦ subst ByteSheet (sym (t.blanks j (omega arith))) blank_bytes
   ]
@@ -207,5 +207,5 @@ module _ (lim : Limits) (b : Book) (g : SmallNames b.names) (few : length b.sequ
         waiting = all_left Octet s.waiting (s.complete ++ s.bounded) octets;
         complete = all_left Octet s.complete s.bounded later;
         bounded = all_right Octet s.complete s.bounded later;
-        slots = all_at ByteSheet blank s.slots (λ j _. byte_at l j);
+        slots = all_at ByteSheet blank s.slots (λ j _. byte_at_lem l j);
       }

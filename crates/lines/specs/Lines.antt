@@ -37,11 +37,11 @@ module _ (s : Bytes) (at : ℕ) (fits : at + 8 ≤ length s) where
   abbrev entry : Bytes
   entry = take 8 (drop at s)
 
-  entry_at : (i : ℕ) → i < 8 → get_or entry i 0 ≡ get_or s (at + i) 0
-  entry_at i h = get_or-take 8 (drop at s) i 0 h ∙ get_or-drop at s i 0
+  entry_at_lem : (i : ℕ) → i < 8 → get_or entry i 0 ≡ get_or s (at + i) 0
+  entry_at_lem i h = get_or-take 8 (drop at s) i 0 h ∙ get_or-drop at s i 0
 
   one_there : (i : ℕ) → i < 8 → take 1 (drop (at + i) s) ≡ get_or entry i 0 ∷ []
-  one_there i h = ap (take 1) (drop-cons s (at + i) 0 (omega arith)) ∙ ap (λ v. v ∷ []) (sym (entry_at i h))
+  one_there i h = ap (take 1) (drop-cons s (at + i) 0 (omega arith)) ∙ ap (λ v. v ∷ []) (sym (entry_at_lem i h))
 
   two_there : take 2 (drop at s) ≡ get_or entry 0 0 ∷ get_or entry 1 0 ∷ []
   two_there = two (drop at s) (omega (arith, length-drop at s))
@@ -58,11 +58,11 @@ module _ (s : Bytes) (at : ℕ) (fits : at + 8 ≤ length s) where
   -- Its arguments, as many as there are.
   pub args_few : get_or s (at + 2) 0 ≤ 4 → fields (take (get_or s (at + 2) 0) (drop (at + 3) s)) ≡ fields (args_in entry)
   unfolding args_in part
-  args_few h = ap fields (sym (ap₂ (λ (n : ℕ) (l : Bytes). take n l) (entry_at 2 (omega arith)) four ∙ take-take (get_or s (at + 2) 0) 4 (drop (at + 3) s) h))
+  args_few h = ap fields (sym (ap₂ (λ (n : ℕ) (l : Bytes). take n l) (entry_at_lem 2 (omega arith)) four ∙ take-take (get_or s (at + 2) 0) 4 (drop (at + 3) s) h))
 
   pub args_many : 4 < get_or s (at + 2) 0 → fields (take 4 (drop (at + 3) s)) ≡ fields (args_in entry)
   unfolding args_in part
-  args_many h = ap fields (sym (ap₂ (λ (n : ℕ) (l : Bytes). take n l) (entry_at 2 (omega arith)) four ∙ take_all (get_or s (at + 2) 0) (take 4 (drop (at + 3) s)) (omega (arith, length-take-le 4 (drop (at + 3) s) (omega (arith, length-drop (at + 3) s))))))
+  args_many h = ap fields (sym (ap₂ (λ (n : ℕ) (l : Bytes). take n l) (entry_at_lem 2 (omega arith)) four ∙ take_all (get_or s (at + 2) 0) (take 4 (drop (at + 3) s)) (omega (arith, length-take-le 4 (drop (at + 3) s) (omega (arith, length-drop (at + 3) s))))))
 
   pub key_parts_lem : ((((key_word ++ fields (take 2 (drop at s))) ++ fields (args_in entry)) ++ equals_word) ++ fields (take 1 (drop (at + 7) s))) ++ newline ≡ key_line (key_in entry)
   unfolding key_line key_in

@@ -40,11 +40,11 @@ last_above w a (suc d) x y e h = omega arith
 -- ---- in order
 
 -- No entry is above a later one.
-pub up_to : (xs : List ℕ) → Sorted xs → (i : ℕ) → i < length xs → All (λ y. y ≤ get_or xs i 0) (take (suc i) xs)
+pub up_to_lem : (xs : List ℕ) → Sorted xs → (i : ℕ) → i < length xs → All (λ y. y ≤ get_or xs i 0) (take (suc i) xs)
 unfolding Sorted
-up_to [] s i h = absurd (omega arith)
-up_to (x ∷ xs) s zero h = (le_refl x, tt)
-up_to (x ∷ xs) s (suc i) h = (all_get_d (λ y. x ≤ y) xs i 0 (omega arith) s.0, up_to xs s.1 i (omega arith))
+up_to_lem [] s i h = absurd (omega arith)
+up_to_lem (x ∷ xs) s zero h = (le_refl x, tt)
+up_to_lem (x ∷ xs) s (suc i) h = (all_get_d (λ y. x ≤ y) xs i 0 (omega arith) s.0, up_to_lem xs s.1 i (omega arith))
 
 pub sorted_take : (i : ℕ) (xs : List ℕ) → Sorted xs → Sorted (take i xs)
 unfolding Sorted
@@ -53,7 +53,7 @@ sorted_take (suc i) [] s = tt
 sorted_take (suc i) (x ∷ xs) s = (all_take (λ y. x ≤ y) i xs s.0, sorted_take i xs s.1)
 
 before_at : (xs : List ℕ) → Sorted xs → (i : ℕ) → i < length xs → All (λ y. y ≤ get_or xs i 0) (take i xs)
-before_at xs s i h = subst (All (λ y. y ≤ get_or xs i 0)) (take-take i (suc i) xs (omega arith)) (all_take (λ y. y ≤ get_or xs i 0) i (take (suc i) xs) (up_to xs s i h))
+before_at xs s i h = subst (All (λ y. y ≤ get_or xs i 0)) (take-take i (suc i) xs (omega arith)) (all_take (λ y. y ≤ get_or xs i 0) i (take (suc i) xs) (up_to_lem xs s i h))
 
 -- ---- the loop
 
@@ -150,7 +150,7 @@ module _ (a n b gone : ℕ) (w₀ : List ℕ) (few : gone ≤ n) (fits : a + n �
       let ey = stayed_at d (suc c) w p in
       let ex = gone_at (suc d) c w p in
       let lows : All (λ z. z ≤ y) (take d U) = subst (λ e. All (λ z. z ≤ e) (take d U)) (sym ey) (before_at U su d (omega (arith, many, p.stay))) in
-      let lower : All (λ z. z ≤ y) (take (suc c) C) = all_all (λ z. z ≤ get_or C c 0) (λ z. z ≤ y) (λ z q. omega arith) (take (suc c) C) (up_to C sc c (omega (arith, moved, p.fewer))) in
+      let lower : All (λ z. z ≤ y) (take (suc c) C) = all_all (λ z. z ≤ get_or C c 0) (λ z. z ≤ y) (λ z q. omega arith) (take (suc c) C) (up_to_lem C sc c (omega (arith, moved, p.fewer))) in
       placed (suc d) (suc c) w p d (suc c) y (omega arith) (omega arith) (omega arith)
       (ap (λ (l : List ℕ). order_in (l ++ take (suc c) C)) (take-suc U d 0 (omega (arith, many, p.stay)) ∙ ap (λ e. take d U ++ (e ∷ [])) (sym ey))
       ∙ ap order_in (append_snoc (take d U) y (take (suc c) C)) ∙ order_greatest (take d U) y (take (suc c) C) lows lower)
@@ -173,7 +173,7 @@ module _ (a n b gone : ℕ) (w₀ : List ℕ) (few : gone ≤ n) (fits : a + n �
       lows zero p h = tt
       lows (suc d) p h =
           let ey = stayed_at d (suc c) w p in
-          all_all (λ z. z ≤ get_or U d 0) (λ z. z ≤ get_or w (b + c) 0) (λ z q. omega arith) (take (suc d) U) (up_to U su d (omega (arith, many, p.stay)))
+          all_all (λ z. z ≤ get_or U d 0) (λ z. z ≤ get_or w (b + c) 0) (λ z q. omega arith) (take (suc d) U) (up_to_lem U su d (omega (arith, many, p.stay)))
 
   -- Both, as the loop has them: x went last, and y stayed last.
   module _ (i j x y : ℕ) (w : List ℕ) (p : Bringing a n b gone w₀ i j w) (some : 0 < j) (ex : x ≡ get_or w (b + (j - 1)) 0) (ey : y ≡ last_of w a i) where

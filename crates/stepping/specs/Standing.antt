@@ -126,14 +126,14 @@ module _ (text p : Bytes) (z : Standing text p) where
   unfolding pool_in list_in part most_slots
   first_waits n = go s.waiting (ap (λ (x : State). x.waiting) back)
     where
-      head_of : (k : ℕ) (xs : List ℕ) (w : ℕ) (ws : List ℕ) → take k (take 64 xs) ≡ w ∷ ws → get_or xs 0 0 ≡ w
-      head_of zero xs w ws e = absurd (let l = ap length e in omega arith)
-      head_of (suc k) [] w ws e = absurd (let l = ap length e in omega arith)
-      head_of (suc k) (x ∷ xs) w ws e = ap (λ (l : List ℕ). get_or l 0 0) e
+      head_of_lem : (k : ℕ) (xs : List ℕ) (w : ℕ) (ws : List ℕ) → take k (take 64 xs) ≡ w ∷ ws → get_or xs 0 0 ≡ w
+      head_of_lem zero xs w ws e = absurd (let l = ap length e in omega arith)
+      head_of_lem (suc k) [] w ws e = absurd (let l = ap length e in omega arith)
+      head_of_lem (suc k) (x ∷ xs) w ws e = ap (λ (l : List ℕ). get_or l 0 0) e
 
       go : (ws : List ℕ) → take (get_or p 12 0) (take 64 (drop 16 p)) ≡ ws → ws ≡ get_or p 16 0 ∷ drop 1 ws
       go [] e = absurd (n (counts_are.0 ∙ ap length (sym (ap (λ (x : State). x.waiting) back) ∙ e)))
-      go (w ∷ ws) e = ap (λ (x : ℕ). x ∷ ws) (sym (sym (lib.Seq.get_or-drop 16 p 0 0) ∙ head_of (get_or p 12 0) (drop 16 p) w ws e))
+      go (w ∷ ws) e = ap (λ (x : ℕ). x ∷ ws) (sym (sym (lib.Seq.get_or-drop 16 p 0 0) ∙ head_of_lem (get_or p 12 0) (drop 16 p) w ws e))
 
   -- ---- the base
 

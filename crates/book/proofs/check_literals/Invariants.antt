@@ -1,4 +1,3 @@
--- What is left to read gives the answer of all.
 use Rattle.rules.specs.Reading.{many, literal_at}
 use Rattle.numbers.specs.Loops.{left}
 use Rattle.numbers.specs.Answers.{checked}

@@ -21,7 +21,7 @@ returns-then-g c =
 
 pub tell_owns-requires : goal.tell_owns-requires
 tell_owns-requires c =
-    (omega arith, (c.requires.1.0, (omega (arith, c.num16-count.ensures.1, c.requires.1.1.0), (c.requires.1.1.1.0, (omega (arith, c.dom-1.given, c.requires.1.1.1.1.0), c.tells-g.ensures.sturdy)))))
+    (omega arith, (c.requires.1.0, (omega (arith, c.num16-count.ensures.1, c.requires.1.1.0), (c.requires.1.1.1.0, (omega (arith, c.requires.1.1.1.1.0), c.tells-g.ensures.sturdy)))))
 
 pub returns : goal.returns
 returns c =

@@ -20,7 +20,7 @@ returns-then-g c =
 
 pub loop-i-preserved : goal.loop-i-preserved
 loop-i-preserved c =
-    (omega arith, (omega (arith, c.w-1.given), (omega (arith, c.dom-1.given), (c.tell_existential-g.ensures.sturdy, left_next c.args.book.now c.args.text.now c.args.at c.args.n (bound_of c.args.kind c.args.number) (limits_of c.args.le c.args.lk c.args.lf) (take c.args.ne c.args.env.now) c.args.v c.args.count c.args.before c.args.w.now c.loop-i.i c.loop-i.cut _ c.loop-i.invariant.1.1.1.1 (omega arith) _ _ _ c.tell_existential-g.ensures.existential c.if-g.false))))
+    (omega arith, (omega arith, (omega arith, (c.tell_existential-g.ensures.sturdy, left_next c.args.book.now c.args.text.now c.args.at c.args.n (bound_of c.args.kind c.args.number) (limits_of c.args.le c.args.lk c.args.lf) (take c.args.ne c.args.env.now) c.args.v c.args.count c.args.before c.args.w.now c.loop-i.i c.loop-i.cut _ c.loop-i.invariant.1.1.1.1 (omega arith) _ _ _ c.tell_existential-g.ensures.existential c.if-g.false))))
 
 pub returns : goal.returns
 returns c =

@@ -21,7 +21,7 @@ returns-then-g c =
 
 pub loop-i-preserved : goal.loop-i-preserved
 loop-i-preserved c =
-    (omega arith, (c.skip_literal-p.ensures.0.1, (omega (arith, c.w-1.given), (omega (arith, c.dom-1.given), (c.tell-g.ensures.sturdy, left_next c.args.book.now c.args.text.now c.args.at c.args.n (bound_of c.args.kind c.args.number) (limits_of c.args.le c.args.lk c.args.lf) (take c.args.ne c.args.env.now) false c.args.w.now c.loop-i.i c.loop-i.p c.loop-i.cut _ c.loop-i.invariant.1.1.1.1.1 (omega arith) _ _ _ c.tell-g.ensures.told c.if-g.false _ c.skip_literal-p.ensures.1)))))
+    (omega arith, (c.skip_literal-p.ensures.0.1, (omega arith, (omega arith, (c.tell-g.ensures.sturdy, left_next c.args.book.now c.args.text.now c.args.at c.args.n (bound_of c.args.kind c.args.number) (limits_of c.args.le c.args.lk c.args.lf) (take c.args.ne c.args.env.now) false c.args.w.now c.loop-i.i c.loop-i.p c.loop-i.cut _ c.loop-i.invariant.1.1.1.1.1 (omega arith) _ _ _ c.tell-g.ensures.told c.if-g.false _ c.skip_literal-p.ensures.1)))))
 
 pub returns : goal.returns
 returns c =

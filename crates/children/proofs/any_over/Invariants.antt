@@ -1,4 +1,3 @@
--- The disjuncts still to come have the answer of all; the chosen elements stay.
 use Prim.Native.Nat.{◌≤◌, ◌-◌}
 use mathlib.Core.Path.{◌≡◌}
 use lib.ListN.{length, take}

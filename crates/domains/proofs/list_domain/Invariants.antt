@@ -1,4 +1,3 @@
--- The numbers listed so far are the first appearances among the values passed.
 use Prim.Native.Nat.{◌≤◌, ◌-◌}
 use mathlib.Core.Path.{◌≡◌}
 use lib.ListN.{length}

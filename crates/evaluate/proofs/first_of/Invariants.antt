@@ -1,4 +1,3 @@
--- The sequents still to come have the answer of all.
 use Prim.Native.Nat.{◌≤◌, ◌-◌}
 use mathlib.Core.Path.{◌≡◌}
 use lib.ListN.{length, take}

@@ -1,4 +1,3 @@
--- Each entry that was passed went through `replaced`.
 use Prim.Native.Nat.{◌≤◌, ◌-◌}
 use mathlib.Core.Path.{◌≡◌}
 use lib.ListN.{length}

@@ -1,4 +1,3 @@
--- The choices from the indices on have the answer of all, and grow fewer.
 use Rattle.firing.specs.Search.{Searching}
 use mathlib.Core.Path.{◌≡◌}
 use lib.ListN.{length, take}

@@ -1,4 +1,3 @@
--- The variables still to come have the answer of all.
 use Prim.Native.Nat.{◌≤◌, ◌-◌}
 use lib.ListN.{take}
 use Rattle.firing.specs.Loops.{ElementsLeft}

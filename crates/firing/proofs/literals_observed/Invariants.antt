@@ -1,4 +1,3 @@
--- The literals still to come have the answer of all.
 use Prim.Native.Nat.{◌≤◌, ◌-◌}
 use lib.ListN.{length, take}
 use Rattle.firing.specs.Loops.{LiteralsLeft}

@@ -1,4 +1,3 @@
--- The environment so far and the origins still to come are the whole.
 use Prim.Native.Nat.{◌≤◌, ◌-◌}
 use mathlib.Core.Path.{◌≡◌}
 use lib.ListN.{length, take}

@@ -1,4 +1,3 @@
--- What is packed so far, and the arguments still to come.
 use Rattle.firing.specs.Origins.{Packs}
 use Rattle.look.specs.Digits.{Roomy}
 use lib.ListN.{take}

@@ -11,4 +11,4 @@ returns c =
     let size = 16 + 8 * c.args.lk + 8 * c.args.lf + c.args.le in
     let at = 208 + size * c.args.i in
     let k : length (mid_of at (at + size - at) c.args.pool.now) ≡ size = mid_len at (at + size) c.args.pool.now (omega arith) ∙ omega arith in
-    patched_lent at size _ _ c.args.pool.now (omega arith) c.pool-1.given.0 (c.clear.ensures ∙ ap (λ j. replicate j 0) k)
+    patched_lent at size _ _ c.args.pool.now (omega arith) c.clear.auto.s (c.clear.ensures ∙ ap (λ j. replicate j 0) k)

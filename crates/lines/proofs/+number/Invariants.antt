@@ -1,4 +1,3 @@
--- One digit, or a digit behind those of the tenth part, which is smaller.
 use Rattle.lines.proofs.+number.Given as goal
 
 abbrev pub decreases-number : goal.decreases-number

@@ -1,4 +1,3 @@
--- The fields of the bytes passed are written.
 use Prim.Native.Nat.{◌+◌, ◌-◌, ◌*◌, ◌≤◌}
 use mathlib.Core.Path.{◌≡◌}
 use lib.ListN.{length, take, drop}

@@ -1,4 +1,3 @@
--- The bytes passed are written.
 use Prim.Native.Nat.{◌+◌, ◌-◌, ◌≤◌}
 use lib.ListN.{length, take}
 use Rattle.lines.specs.Wrote.{Wrote}

@@ -10,7 +10,7 @@ use Rattle.lists.specs.Header.{list_front}
 use Rattle.lists.proofs.in_list.Goals as goal
 
 pub overflow_cast-p : goal.overflow_cast-p
-overflow_cast-p c = let b = c.shared_slice_known-in-loop-j-1.given (c.args.at + c.loop-j.j) in omega arith
+overflow_cast-p c = let b = c.type_inv.p (c.args.at + c.loop-j.j) in omega arith
 
 pub returns-then-p-at : goal.returns-then-p-at
 returns-then-p-at c =

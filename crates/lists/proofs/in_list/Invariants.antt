@@ -1,4 +1,3 @@
--- The rest of the list has the same answer as the whole.
 use Prim.Native.Nat.{◌≤◌, ◌-◌}
 use mathlib.Core.Path.{◌≡◌}
 use lib.ListN.{take, drop}

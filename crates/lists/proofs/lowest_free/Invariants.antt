@@ -1,4 +1,3 @@
--- The slots so far are all named.
 use Prim.Native.Nat.{◌≤◌, ◌-◌}
 use Rattle.lists.specs.Header.{FreeFrom}
 use Rattle.lists.proofs.lowest_free.Given as goal

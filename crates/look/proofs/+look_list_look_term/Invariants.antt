@@ -1,4 +1,3 @@
--- The unread text falls: a list calls a term at its own place, and a term a list further on. Each way out has its law.
 use lib.ListN.{length}
 use Prim.Native.Nat.{◌+◌, ◌*◌, ◌-◌}
 use Rattle.look.proofs.+look_list_look_term.Given as goal

@@ -1,4 +1,3 @@
--- A pass that lowers leaves less to fall; one that does not has come to rest.
 use Rattle.rules.specs.Image.{part}
 use Rattle.lowering.specs.Rest.{Passing, left}
 use Rattle.lowering.proofs.lower.Given as goal

@@ -1,4 +1,3 @@
--- What is left of the pass gives what the whole would.
 use Prim.Native.Nat.{◌-◌}
 use Rattle.lowering.specs.Rest.{Lowering}
 use Rattle.lowering.proofs.lower_by.Given as goal

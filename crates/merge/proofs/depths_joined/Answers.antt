@@ -8,4 +8,4 @@ use Rattle.merge.proofs.depths_joined.Goals as goal
 
 pub returns : goal.returns
 returns c =
-    lent (λ t u. u ≡ merge_depths c.args.s c.args.l t) c.args.at c.args.n (c.args.at + c.args.n - c.args.at) c.args.w.now _ (omega arith) c.requires c.w-1.given.0 c.join_depths.ensures
+    lent (λ t u. u ≡ merge_depths c.args.s c.args.l t) c.args.at c.args.n (c.args.at + c.args.n - c.args.at) c.args.w.now _ (omega arith) c.requires c.join_depths.auto.t c.join_depths.ensures

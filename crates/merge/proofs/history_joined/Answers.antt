@@ -11,5 +11,5 @@ use Rattle.merge.proofs.history_joined.Goals as goal
 pub returns : goal.returns
 returns c =
     let e : c.args.at + c.args.n - c.args.at ≡ c.args.n = omega arith in
-    lent (λ t u. u ≡ map (replaced c.args.s c.args.l) t) c.args.at c.args.n (c.args.at + c.args.n - c.args.at) c.args.w.now _ e c.requires.0 c.w-1.given.0
+    lent (λ t u. u ≡ map (replaced c.args.s c.args.l) t) c.args.at c.args.n (c.args.at + c.args.n - c.args.at) c.args.w.now _ e c.requires.0 c.rename_all.auto.t
     (all_front (replaced c.args.s c.args.l) c.args.at c.args.n (c.args.at + c.args.n - c.args.at) c.args.w.now _ e c.requires.0 c.rename_all.ensures)

@@ -13,5 +13,5 @@ join_keys-requires c =
 
 pub returns : goal.returns
 returns c =
-    lent (λ t u. JoinedKeys c.args.s c.args.l c.args.n c.args.top t _ _ u) c.args.at c.args.room (c.args.at + c.args.room - c.args.at) c.args.w.now _ (omega arith) c.requires.0 c.w-1.given.0
+    lent (λ t u. JoinedKeys c.args.s c.args.l c.args.n c.args.top t _ _ u) c.args.at c.args.room (c.args.at + c.args.room - c.args.at) c.args.w.now _ (omega arith) c.requires.0 c.join_keys.auto.t
     c.join_keys.ensures

@@ -1,4 +1,3 @@
--- The pairs that are left give what all would; keys and pairs together become fewer.
 use Rattle.merge.specs.Next.{Merging, remaining}
 use Rattle.sheets.specs.Form.{limits_of}
 use Rattle.merge.proofs.merge_all.Given as goal

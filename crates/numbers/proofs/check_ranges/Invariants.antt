@@ -1,4 +1,3 @@
--- What is left to read gives the answer of the whole row.
 use Rattle.numbers.specs.Loops.{left}
 use Rattle.rules.specs.Reading.{many, ranged}
 use Rattle.numbers.specs.Answers.{checked}

@@ -1,4 +1,3 @@
--- The children still to come are those that the definition has left; the chosen elements stay.
 use Prim.Native.Nat.{◌-◌, ◌≤◌}
 use mathlib.Core.Path.{◌≡◌}
 use lib.ListN.{length, take}

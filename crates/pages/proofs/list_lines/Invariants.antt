@@ -1,4 +1,3 @@
--- The sheets of the slots passed are written.
 use Prim.Native.Nat.{◌+◌, ◌-◌, ◌*◌, ◌≤◌}
 use mathlib.Core.Path.{◌≡◌}
 use lib.ListN.{length, take, drop}

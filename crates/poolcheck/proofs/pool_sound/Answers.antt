@@ -17,9 +17,9 @@ pub returns-then-frame_right : goal.returns-then-frame_right
 returns-then-frame_right c =
     let r = right_slots (length c.args.pool.now) c.requires in
     let e = rw (c.places.ensures, c.byte.ensures.0) at c.slots_right.ensures in
-    λ b ok. e ∙ slots_out c.args.book.now c.args.pool.now _ r.0 (λ j. (c.shared_slice_known-2-1.given j).fits) b ok (sym c.frame_right.ensures ∙ c.if-frame_right.true)
+    λ b ok. e ∙ slots_out c.args.book.now c.args.pool.now _ r.0 (λ j. (c.type_inv.pool j).fits) b ok (sym c.frame_right.ensures ∙ c.if-frame_right.true)
 
 pub returns : goal.returns
 returns c =
     let r = right_slots (length c.args.pool.now) c.requires in
-    λ b ok. frame_out c.args.book.now c.args.pool.now _ r.0 (λ j. (c.shared_slice_known-2-1.given j).fits) b ok (sym c.frame_right.ensures ∙ c.if-frame_right.false)
+    λ b ok. frame_out c.args.book.now c.args.pool.now _ r.0 (λ j. (c.type_inv.pool j).fits) b ok (sym c.frame_right.ensures ∙ c.if-frame_right.false)

@@ -1,4 +1,3 @@
--- The entries passed are slots.
 use Prim.Native.Nat.{◌≤◌, ◌-◌}
 use mathlib.Core.Path.{◌≡◌}
 use Rattle.sheetparts.specs.Loops.{every}

@@ -1,4 +1,3 @@
--- The slots passed are right.
 use Prim.Native.Nat.{◌≤◌, ◌-◌}
 use mathlib.Core.Path.{◌≡◌}
 use Rattle.texts.specs.Names.{names_in}

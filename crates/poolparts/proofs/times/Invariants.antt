@@ -1,4 +1,3 @@
--- The count so far and that of the rest come to the whole.
 use Prim.Native.Nat.{◌≤◌, ◌-◌, ◌+◌}
 use mathlib.Core.Path.{◌≡◌}
 use mathlib.Core.List.{map}

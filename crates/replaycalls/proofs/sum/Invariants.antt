@@ -1,4 +1,3 @@
--- The sum stays below the modulus, so that the next product fits.
 use Prim.Native.Nat.{◌≤◌, ◌<◌, ◌-◌}
 use lib.ListN.{length}
 use Rattle.replaycalls.proofs.sum.Given as goal

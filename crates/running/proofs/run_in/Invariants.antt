@@ -1,4 +1,3 @@
--- What is left of the definition's run; the pool stands before each step.
 use Prim.Native.Nat.{◌-◌, ◌≤◌}
 use mathlib.Core.Path.{◌≡◌}
 use lib.ListN.{length}

@@ -11,7 +11,7 @@ use Rattle.sheetcheck.proofs.sheet_sound.Goals as goal
 pub room_right-requires : goal.room_right-requires
 room_right-requires c =
     let e = sym c.head_right.ensures ∙ c.if-head_right.true in
-    (c.requires.0, head_counts _ c.requires.0 (names_in c.args.book.now) c.args.slot.now c.requires.1 (λ j. (c.shared_slice_known-2-1.given j).fits) c.args.places e)
+    (c.requires.0, head_counts _ c.requires.0 (names_in c.args.book.now) c.args.slot.now c.requires.1 (λ j. (c.type_inv.slot j).fits) c.args.places e)
 
 pub fill-requires : goal.fill-requires
 fill-requires c =
@@ -21,7 +21,7 @@ fill-requires c =
 pub body_right-requires : goal.body_right-requires
 body_right-requires c =
     let e = sym c.head_right.ensures ∙ c.if-head_right.true in
-    let k = head_counts _ c.requires.0 (names_in c.args.book.now) c.args.slot.now c.requires.1 (λ j. (c.shared_slice_known-2-1.given j).fits) c.args.places e in
+    let k = head_counts _ c.requires.0 (names_in c.args.book.now) c.args.slot.now c.requires.1 (λ j. (c.type_inv.slot j).fits) c.args.places e in
     ((c.requires.0, omega (arith, k.0, c.requires.0.elements)), omega arith)
 
 pub returns-then-room_right : goal.returns-then-room_right
@@ -29,12 +29,12 @@ unfolding depths_from
 returns-then-room_right c =
     let e = sym c.head_right.ensures ∙ c.if-head_right.true in
     let r = sym c.room_right.ensures ∙ c.if-room_right.true in
-    c.body_right.ensures ∙ body_out _ c.requires.0 (names_in c.args.book.now) c.args.slot.now c.requires.1 (λ j. (c.shared_slice_known-2-1.given j).fits) c.args.places _ e r (rw c.num16.ensures.0 at c.fill.ensures)
+    c.body_right.ensures ∙ body_out _ c.requires.0 (names_in c.args.book.now) c.args.slot.now c.requires.1 (λ j. (c.type_inv.slot j).fits) c.args.places _ e r (rw c.num16.ensures.0 at c.fill.ensures)
 
 pub returns-then-head_right : goal.returns-then-head_right
 returns-then-head_right c =
-    room_out _ c.requires.0 (names_in c.args.book.now) c.args.slot.now c.requires.1 (λ j. (c.shared_slice_known-2-1.given j).fits) c.args.places (sym c.room_right.ensures ∙ c.if-room_right.false)
+    room_out _ c.requires.0 (names_in c.args.book.now) c.args.slot.now c.requires.1 (λ j. (c.type_inv.slot j).fits) c.args.places (sym c.room_right.ensures ∙ c.if-room_right.false)
 
 pub returns : goal.returns
 returns c =
-    head_out _ c.requires.0 (names_in c.args.book.now) c.args.slot.now c.requires.1 (λ j. (c.shared_slice_known-2-1.given j).fits) c.args.places (sym c.head_right.ensures ∙ c.if-head_right.false)
+    head_out _ c.requires.0 (names_in c.args.book.now) c.args.slot.now c.requires.1 (λ j. (c.type_inv.slot j).fits) c.args.places (sym c.head_right.ensures ∙ c.if-head_right.false)

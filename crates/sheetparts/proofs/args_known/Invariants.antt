@@ -1,4 +1,3 @@
--- The arguments passed are known.
 use Prim.Native.Nat.{◌≤◌, ◌<◌, ◌-◌}
 use mathlib.Core.Path.{◌≡◌}
 use Rattle.sheetparts.specs.Loops.{every}

@@ -1,4 +1,3 @@
--- The depths passed are right.
 use Prim.Native.Nat.{◌≤◌, ◌-◌}
 use mathlib.Core.Path.{◌≡◌}
 use Rattle.sheetparts.specs.Loops.{every}

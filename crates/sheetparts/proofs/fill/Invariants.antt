@@ -1,4 +1,3 @@
--- The keys from i on give the least depths.
 use Prim.Native.Nat.{◌≤◌}
 use mathlib.Core.Path.{◌≡◌}
 use lib.ListN.{length}

@@ -1,4 +1,3 @@
--- The entries passed are right and rise.
 use Prim.Native.Nat.{◌≤◌, ◌-◌}
 use mathlib.Core.Path.{◌≡◌}
 use Rattle.texts.specs.Names.{names_in}

@@ -1,4 +1,3 @@
--- The bytes passed are zero.
 use Prim.Native.Nat.{◌≤◌, ◌-◌}
 use mathlib.Core.Path.{◌≡◌}
 use Rattle.sheetparts.specs.Loops.{every}

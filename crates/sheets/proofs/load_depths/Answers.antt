@@ -12,5 +12,5 @@ pub returns : goal.returns
 returns c =
     let k = c.args.at + c.args.room - c.args.at in
     let ys = c.load_bytes.new.t in
-    let z : length ys ≡ k = c.w-1.given.0 ∙ mid_len c.args.at (c.args.at + c.args.room) c.args.w.now (omega arith) in
+    let z : length ys ≡ k = c.load_bytes.auto.t ∙ mid_len c.args.at (c.args.at + c.args.room) c.args.w.now (omega arith) in
     region_lent c.args.at c.args.room _ k _ _ c.args.w.now ys (omega arith) z c.load_bytes.ensures (length-take-le c.args.n (drop c.args.from c.args.slot.now) (omega (arith, length-drop c.args.from c.args.slot.now)))

@@ -11,5 +11,5 @@ pub returns : goal.returns
 returns c =
     let k = c.args.at + c.args.room - c.args.at in
     let ys = c.load_words.new.t in
-    let z : length ys ≡ k = c.w-1.given.0 ∙ mid_len c.args.at (c.args.at + c.args.room) c.args.w.now (omega arith) in
+    let z : length ys ≡ k = c.load_words.auto.t ∙ mid_len c.args.at (c.args.at + c.args.room) c.args.w.now (omega arith) in
     region_lent c.args.at c.args.room _ k _ _ c.args.w.now ys (omega arith) z c.load_words.ensures (numbers_length c.args.slot.now c.args.from c.args.n)

@@ -10,5 +10,5 @@ pub returns : goal.returns
 returns c =
     let k = c.args.at + c.args.room - c.args.at in
     let ys = c.set_history.new.t in
-    let z : length ys ≡ k = c.w-1.given.0 ∙ mid_len c.args.at (c.args.at + c.args.room) c.args.w.now (omega arith) in
+    let z : length ys ≡ k = c.set_history.auto.t ∙ mid_len c.args.at (c.args.at + c.args.room) c.args.w.now (omega arith) in
     region_lent c.args.at c.args.room _ k _ _ c.args.w.now ys (omega arith) z c.set_history.ensures (from_length 0 c.args.room)

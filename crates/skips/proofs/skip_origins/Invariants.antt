@@ -1,4 +1,3 @@
--- What is left of them after each turn.
 use Prim.Native.Nat.{◌≤◌, ◌-◌}
 use lib.ListN.{length}
 use Rattle.texts.specs.Names.{names_in}

@@ -1,4 +1,3 @@
--- The terms still to come are counted; each turn reads one and adds those directly below it.
 use Prim.Native.Nat.{◌≤◌, ◌-◌, ◌+◌, ◌*◌}
 use lib.ListN.{length}
 use Rattle.texts.specs.Names.{names_in}

@@ -1,4 +1,3 @@
--- Entries above i are moved.
 use Prim.Native.Nat.{◌≤◌}
 use mathlib.Core.Path.{◌≡◌}
 use lib.ListN.{length}

@@ -1,4 +1,3 @@
--- Halving: the place stays between the two ends.
 use Prim.Native.Nat.{◌≤◌, ◌-◌}
 use lib.ListN.{take}
 use Rattle.tables.specs.Table.{Between}

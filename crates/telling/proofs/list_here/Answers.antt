@@ -14,5 +14,5 @@ unfolding view_of
 returns c =
     record {
       is = c.list_domain.ensures.0 ∙ ap (λ (t : List ℕ). firsts (map value_of t)) (part_front 5 (5 + c.args.lk - 5) (get_or c.args.w.now 3 0) c.args.w.now (omega arith));
-      room = omega (arith, c.list_domain.ensures.1, c.dom-1.given);
+      room = omega (arith, c.list_domain.ensures.1);
     }

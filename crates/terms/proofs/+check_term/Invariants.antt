@@ -1,4 +1,3 @@
--- The levels fall; what is left of the arguments gives the answer of all.
 use Rattle.terms.specs.Head.{args_at}
 use Rattle.numbers.specs.Loops.{left as rest}
 use Rattle.rules.specs.Reading.{term_at}
