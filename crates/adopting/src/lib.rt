@@ -3,39 +3,32 @@
 #![tactic(auto)]
 
 ghost use Rattle.std.specs.Prelude.{◌+◌, ◌*◌, ◌≤◌, length};
-ghost use Rattle.sheets.specs.Form.{limits_of, Formed};
+ghost use Rattle.limits.specs.Limits.{limits_of, slot_at, slot_size};
+ghost use Rattle.sheets.specs.Form.{Formed};
 ghost use Rattle.adopting.specs.Slots.{Freed, Adopted};
 
 use heads::clear_slot;
+use limits::Limits;
 use lists::{forget, join};
 use poolparts::next_number;
 use slots::put_sheet;
 
 // The first waiting sheet, in slot i, is given up.
-pub fn free_base(pool: &mut [u8], i: usize, le: usize, lk: usize, lf: usize)
-    requires { 208 + (16 + 8 * lk + 8 * lf + le) * i + (16 + 8 * lk + 8 * lf + le) ≤ length pool.old }
-    ensures { Freed (limits_of le lk lf) i pool.old pool.new }
+pub fn free_base(pool: &mut [u8], i: usize, limits: Limits)
+    requires { slot_at (limits_of limits) i + slot_size (limits_of limits) ≤ length pool.old }
+    ensures { Freed (limits_of limits) i pool.old pool.new }
 {
-    clear_slot(pool, i, le, lk, lf);
+    clear_slot(pool, i, limits);
     forget(pool);
 }
 
 // The child in a working form goes into slot i with the next number and a place, open or bounded.
-pub fn place_child(
-    pool: &mut [u8],
-    i: usize,
-    cut: bool,
-    place: u64,
-    w: &mut [u64],
-    le: usize,
-    lk: usize,
-    lf: usize,
-)
-    requires { Formed (limits_of le lk lf) w.old × (208 + (16 + 8 * lk + 8 * lf + le) * i + (16 + 8 * lk + 8 * lf + le) ≤ length pool.old) }
-    ensures { Adopted (limits_of le lk lf) i cut place w.old pool.old pool.new }
+pub fn place_child(pool: &mut [u8], i: usize, cut: bool, place: u64, w: &mut [u64], limits: Limits)
+    requires { Formed (limits_of limits) w.old × (slot_at (limits_of limits) i + slot_size (limits_of limits) ≤ length pool.old) }
+    ensures { Adopted (limits_of limits) i cut place w.old pool.old pool.new }
 {
     w[0] = next_number(pool);
     w[1] = place;
-    put_sheet(pool, i, w, le, lk, lf);
+    put_sheet(pool, i, w, limits);
     join(pool, i as u64, cut);
 }

@@ -1,37 +1,33 @@
 -- What depths of terms and the test of a bound say: for whatever stands at the place, the answer is the definition's.
-use Rattle.std.specs.Prelude.{◌≡◌, ℕ, ◌+◌, ◌-◌, ◌≤◌, ◌<◌, Bool, true, false, List, length, get_or}
+use Rattle.std.specs.Prelude.{◌≡◌, ℕ, ◌+◌, ◌-◌, ◌≤◌, ◌<◌, Bool, true, false, List, length, get_or, ◌⊎◌, Some, None}
+use Rattle.std.specs.Prelude as std
 use Rattle.std.proofs.Math.Option.{none, some}
 use Rattle.rules.specs.Book.{Term, Terms}
 use Rattle.rules.specs.Reading.{Bytes}
 use Rattle.rules.specs.Sheet.{Model, domain, Limits}
 use Rattle.rules.specs.Look.{Meaning, nobody, look}
 use Rattle.rules.specs.Bound.{Bound, History, depth_meaning, depth, depths, depth_over, admits, admitted}
-use Rattle.enter.specs.declared.Head.{Head}
-use Rattle.enter.specs.declared.Head.TheVariants.{Short, Leaf, Apply}
+use Rattle.look.specs.declared.Head.{Head}
+use Rattle.look.specs.declared.Head.TheVariants.{Leaf, Apply}
 use Rattle.enter.specs.Terms.{Setting, Told, TermAt, TermsAt, Applies}
-use Rattle.bound.specs.declared.Depth.{Depth}
-use Rattle.bound.specs.declared.Depth.TheVariants.{Of}
-use Rattle.bound.specs.declared.Asked.{Asked}
-use Rattle.bound.specs.declared.Asked.TheVariants.{Refused, Known, New}
 
 -- Whatever the text: depths are no more than the text allows, and the next place is further on.
-abbrev pub DepthGood : ℕ → ℕ → Depth → Type 0
-DepthGood len at Depth.Short = Unit
-DepthGood len at (Of d e) = (d ≤ 65536 + (e - at)) × ((at < e) × (e ≤ len))
+abbrev pub DepthGood : ℕ → ℕ → std.Option (ℕ × ℕ) → Type 0
+DepthGood len at None = Unit
+DepthGood len at (Some r) = (r.0 ≤ 65536 + (r.1 - at)) × ((at < r.1) × (r.1 ≤ len))
 
-abbrev pub DepthsGood : ℕ → ℕ → Depth → Type 0
-DepthsGood len at Depth.Short = Unit
-DepthsGood len at (Of d e) = (d ≤ 65537 + (e - at)) × ((at ≤ e) × (e ≤ len))
+abbrev pub DepthsGood : ℕ → ℕ → std.Option (ℕ × ℕ) → Type 0
+DepthsGood len at None = Unit
+DepthsGood len at (Some r) = (r.0 ≤ 65537 + (r.1 - at)) × ((at ≤ r.1) × (r.1 ≤ len))
 
-abbrev pub DepthHeadGood : ℕ → ℕ → Head → Type 0
-DepthHeadGood len at Short = Unit
-DepthHeadGood len at (Leaf d) = (d ≤ 65536) × (at + 4 ≤ len)
-DepthHeadGood len at (Apply f n) = at + 4 ≤ len
+abbrev pub DepthHeadGood : ℕ → ℕ → std.Option (Head ℕ) → Type 0
+DepthHeadGood len at None = Unit
+DepthHeadGood len at (Some (Leaf d)) = (d ≤ 65536) × (at + 4 ≤ len)
+DepthHeadGood len at (Some (Apply f n)) = at + 4 ≤ len
 
-abbrev pub AskGood : ℕ → ℕ → Asked → Type 0
-AskGood len at Refused = Unit
-AskGood len at (Known e) = (at < e) × (e ≤ len)
-AskGood len at (New e) = (at < e) × (e ≤ len)
+abbrev pub AskGood : ℕ → ℕ → ℕ → std.Option (ℕ × ℕ) → Type 0
+AskGood len at size None = Unit
+AskGood len at size (Some r) = ((at < r.0) × (r.0 ≤ len)) × (r.1 ≤ size + 1)
 
 -- ---- what they are, in any setting, for any model that is told and any term that stands there
 
@@ -44,25 +40,25 @@ abbrev pub IsDepthVariable : Limits → List ℕ → ℕ → List ℕ → ℕ �
 IsDepthVariable lim env i w r = (book : Bytes) (z : Setting book lim env) (m : Model) (now : History) → Told book lim env z w m now → i < length z.ms
     → r ≡ depth_meaning m now (get_or z.ms i nobody)
 
-abbrev pub IsDepth : Bytes → Bytes → ℕ → Limits → List ℕ → List ℕ → List ℕ → Depth → Type 0
-IsDepth book text at lim env w dom r = Everywhere book text at lim env w dom (λ m now ms t e. r ≡ Of (depth t m now ms) e)
+abbrev pub IsDepth : Bytes → Bytes → ℕ → Limits → List ℕ → List ℕ → List ℕ → std.Option (ℕ × ℕ) → Type 0
+IsDepth book text at lim env w dom r = Everywhere book text at lim env w dom (λ m now ms t e. r ≡ Some (depth t m now ms, e))
 
-abbrev pub IsDepths : Bytes → Bytes → ℕ → ℕ → Limits → List ℕ → List ℕ → List ℕ → Depth → Type 0
+abbrev pub IsDepths : Bytes → Bytes → ℕ → ℕ → Limits → List ℕ → List ℕ → List ℕ → std.Option (ℕ × ℕ) → Type 0
 IsDepths book text at k lim env w dom r = (z : Setting book lim env) (m : Model) (now : History) → Told book lim env z w m now → dom ≡ domain m
-    → (ts : Terms) (e : ℕ) → TermsAt book text at k (length z.ms) ts e → r ≡ Of (depth_over (depths ts m now z.ms)) e
+    → (ts : Terms) (e : ℕ) → TermsAt book text at k (length z.ms) ts e → r ≡ Some (depth_over (depths ts m now z.ms), e)
 
 -- What stands first in an unknown term.
-abbrev pub HeadDepth : Bytes → Bytes → ℕ → Limits → List ℕ → List ℕ → Head → Type 0
-HeadDepth book text at lim env w Short = length text - at < 4
-HeadDepth book text at lim env w (Leaf d) = (z : Setting book lim env) (m : Model) (now : History) → Told book lim env z w m now
+abbrev pub HeadDepth : Bytes → Bytes → ℕ → Limits → List ℕ → List ℕ → std.Option (Head ℕ) → Type 0
+HeadDepth book text at lim env w None = length text - at < 4
+HeadDepth book text at lim env w (Some (Leaf d)) = (z : Setting book lim env) (m : Model) (now : History) → Told book lim env z w m now
     → (t : Term) (e : ℕ) → TermAt book text at (length z.ms) t e → look t m z.ms ≡ none → (d ≡ depth t m now z.ms) × (e ≡ at + 4)
-HeadDepth book text at lim env w (Apply f k) = (n : ℕ) (t : Term) (e : ℕ) → TermAt book text at n t e → Applies book text at n t e f k
+HeadDepth book text at lim env w (Some (Apply f k)) = (n : ℕ) (t : Term) (e : ℕ) → TermAt book text at n t e → Applies book text at n t e f k
 
--- A term that is put to the bound: refused, known, or new.
-abbrev pub IsAsked : Bytes → Bytes → ℕ → Bound → ℕ → Limits → List ℕ → List ℕ → List ℕ → Asked → Type 0
-IsAsked book text at b size lim env w dom Refused = Everywhere book text at lim env w dom (λ m now ms t e. (look t m ms ≡ none) × (false ≡ admits b size (depth t m now ms)))
-IsAsked book text at b size lim env w dom (Known g) = Everywhere book text at lim env w dom (λ m now ms t e. ((v : ℕ) × (look t m ms ≡ some v)) × (g ≡ e))
-IsAsked book text at b size lim env w dom (New g) = Everywhere book text at lim env w dom (λ m now ms t e. (look t m ms ≡ none) × ((true ≡ admits b size (depth t m now ms)) × (g ≡ e)))
+-- A term that is put to the bound: refused; or the place behind it, and the count, which is one more where the term is new.
+abbrev pub IsAsked : Bytes → Bytes → ℕ → Bound → ℕ → Limits → List ℕ → List ℕ → List ℕ → std.Option (ℕ × ℕ) → Type 0
+IsAsked book text at b size lim env w dom None = Everywhere book text at lim env w dom (λ m now ms t e. (look t m ms ≡ none) × (false ≡ admits b size (depth t m now ms)))
+IsAsked book text at b size lim env w dom (Some r) = Everywhere book text at lim env w dom (λ m now ms t e. (r.0 ≡ e)
+    × ((((v : ℕ) × (look t m ms ≡ some v)) × (r.1 ≡ size)) ⊎ ((look t m ms ≡ none) × ((true ≡ admits b size (depth t m now ms)) × (r.1 ≡ size + 1)))))
 
 abbrev pub IsAdmitted : Bytes → Bytes → ℕ → ℕ → Bound → ℕ → Limits → List ℕ → List ℕ → List ℕ → Bool → Type 0
 IsAdmitted book text at k b size lim env w dom r = (z : Setting book lim env) (m : Model) (now : History) → Told book lim env z w m now → dom ≡ domain m

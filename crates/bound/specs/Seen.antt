@@ -28,13 +28,6 @@ use Rattle.enter.specs.Args.{depth_of, depth_is, resolved, resolved_is}
 use Rattle.enter.specs.Marks.{Holding, proper_fits, fits_eight, fits_low, yielded_octet, history_at_lem, Still, Stands, declared_kind, witness_fits}
 use Rattle.enter.specs.Terms.{Setting, Told, told_holding, TermAt}
 
--- ---- what is asked of the tables, whatever they hold
-
-pub record Ready (lim : Limits) (env : List ℕ) (ne : ℕ) (w dom : List ℕ) (nd : ℕ) : Type 0 where
-  pub env_room : ne ≤ length env
-  pub dom_room : nd ≤ length dom
-  pub sturdy : Sturdy lim w
-
 -- ---- as lookup has it
 
 plain : {lim : Limits} {book : Bytes} {env : List ℕ} (z : Setting book lim env) (μ : Meaning) → Means (names_in book) (Yielded z.base) μ → Plain (names_in book) μ

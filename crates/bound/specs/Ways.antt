@@ -1,5 +1,7 @@
 -- One law for each way out of the depth of a term and of an argument list.
-use Rattle.std.specs.Prelude.{◌≡◌}
+use Rattle.std.specs.Prelude.{◌≡◌, Some, None}
+use Rattle.std.specs.Prelude as std
+use Rattle.std.proofs.lemmas.Option.{none-some, some_pair_parts}
 use Rattle.std.proofs.Math.Path.{sym, ap, ap₂}
 use Rattle.std.proofs.Common.{◌∙◌, subst, arith}
 use Prim.Native.Nat.{ℕ, ◌+◌, ◌-◌, ◌%◌, ◌≤◌, ◌<◌, max}
@@ -19,19 +21,15 @@ use Rattle.soundness.specs.Enter.{Means}
 use Rattle.texts.specs.Names.{names_in}
 use Rattle.texts.specs.Text.{count, TermText, TermsText}
 use Rattle.texts.specs.Parts.{term_grows}
-use Rattle.look.specs.declared.Look.{Look}
-use Rattle.look.specs.declared.Look.TheVariants.{Elem}
+use Rattle.look.specs.declared.Head.TheVariants.{Leaf, Apply}
 use Rattle.look.specs.Shown.{pack_meaning}
 use Rattle.look.specs.Answers.{IsLook}
 use Rattle.look.specs.Ways.{look_some, look_none}
 use Rattle.sheets.specs.Form.{view_of}
-use Rattle.enter.specs.declared.Head.TheVariants.{Short, Leaf, Apply}
 use Rattle.enter.specs.Terms.{told_holding, TermsAt}
 use Rattle.enter.specs.Ways.{terms_first, meaning_at}
-use Rattle.bound.specs.declared.Depth.{Depth}
-use Rattle.bound.specs.declared.Depth.TheVariants.{Of}
 use Rattle.bound.specs.Seen.{told_at, setting_stands, shallow, DepthMeant}
-use Rattle.bound.specs.Answers.{DepthGood, DepthsGood, IsDepthVariable, IsDepth, IsDepths, HeadDepth}
+use Rattle.bound.specs.Answers.{IsDepthVariable, IsDepth, IsDepths, HeadDepth}
 
 -- ---- the definition's two ways
 
@@ -52,15 +50,6 @@ depth_unknown (var i) m now ms e = ap (λ (o : Option ℕ). case_o o (λ _. dept
 depth_unknown (con c) m now ms e = ap (λ (o : Option ℕ). case_o o (λ _. 0) (depth_at m)) e
 depth_unknown (app f ts) m now ms e = ap (λ (o : Option ℕ). case_o o (λ _. depth_over (depths ts m now ms)) (depth_at m)) e
 
--- ---- places
-
-pub leaf_good : (len at d : ℕ) → d ≤ 65536 → at + 4 ≤ len → DepthGood len at (Of d (at + 4))
-leaf_good len at d h l = (omega arith, (omega arith, l))
-
-pub apply_good : (len at : ℕ) (r : Depth) → DepthsGood len (at + 4) r → DepthGood len at r
-apply_good len at Depth.Short g = tt
-apply_good len at (Of d e) g = (omega arith, (omega arith, g.1.1))
-
 -- ---- variables
 
 module _ (lim : Limits) (env : List ℕ) (i : ℕ) (w : List ℕ) where
@@ -75,7 +64,7 @@ module _ (lim : Limits) (env : List ℕ) (i : ℕ) (w : List ℕ) where
 -- ---- what stands first in an unknown term
 
 module _ (book text : Bytes) (at : ℕ) (lim : Limits) (env w : List ℕ) (j : ℕ) (is : num text (at + 2) ≡ j) where
-  pub head_variable : num text at ≡ 0 → (r : ℕ) → IsDepthVariable lim env j w r → HeadDepth book text at lim env w (Leaf r)
+  pub head_variable : num text at ≡ 0 → (r : ℕ) → IsDepthVariable lim env j w r → HeadDepth book text at lim env w (Some (Leaf r))
   unfolding TermText unknown_depth
   head_variable k r g z m now t (var i) e a n =
       let p : j ≡ i = sym is ∙ a.stands.1.0 in
@@ -83,7 +72,7 @@ module _ (book text : Bytes) (at : ℕ) (lim : Limits) (env w : List ℕ) (j : �
   head_variable k r g z m now t (con c) e a n = absurd (omega (arith, a.stands.0))
   head_variable k r g z m now t (app f ts) e a n = absurd (omega (arith, a.stands.0))
 
-  pub head_constant : num text at ≡ 1 → HeadDepth book text at lim env w (Leaf 0)
+  pub head_constant : num text at ≡ 1 → HeadDepth book text at lim env w (Some (Leaf 0))
   unfolding TermText unknown_depth
   head_constant k z m now t (var i) e a n = absurd (omega (arith, a.stands.0))
   head_constant k z m now t (con c) e a n = (sym (depth_unknown (con c) m now z.ms n), a.stands.1.1)
@@ -92,53 +81,53 @@ module _ (book text : Bytes) (at : ℕ) (lim : Limits) (env w : List ℕ) (j : �
 -- ---- terms
 
 module _ (book text : Bytes) (at : ℕ) (lim : Limits) (env w dom : List ℕ) where
-  pub term_known : (v g r : ℕ) → IsLook book text at env (view_of lim w).keys dom (Elem v g) → r ≡ get_or (view_of lim w).depths v 0 % 65536 → IsDepth book text at lim env w dom (Of r g)
+  pub term_known : (v g r : ℕ) → IsLook book text at env (view_of lim w).keys dom (Some (v, g)) → r ≡ get_or (view_of lim w).depths v 0 % 65536 → IsDepth book text at lim env w dom (Some (r, g))
   unfolding depth_at
   term_known v g r l q z m now t d u e a =
       let p = look_some (look u m z.ms) v e g (l m z.ms u e (told_at t d a)) in
       let i : r ≡ depth u m now z.ms = q ∙ ap (λ (ds : List ℕ). get_or ds v 0 % 65536) t.carries.depths ∙ (omega (arith, shallow (told_holding t) v))
       ∙ sym (depth_known u m now z.ms v p.0) in
-      ap₂ Of i (sym p.1)
+      ap₂ (λ (p q : ℕ). Some (p, q)) i (sym p.1)
 
-  pub term_short : HeadDepth book text at lim env w Short → IsDepth book text at lim env w dom Depth.Short
+  pub term_short : HeadDepth book text at lim env w None → IsDepth book text at lim env w dom None
   term_short h z m now t d u e a = absurd (omega (arith, h, a.fits, term_grows (names_in book) text at u e a.stands))
 
-  module _ (missing : IsLook book text at env (view_of lim w).keys dom Look.Missing) where
-    pub term_leaf : (r : ℕ) → HeadDepth book text at lim env w (Leaf r) → IsDepth book text at lim env w dom (Of r (at + 4))
+  module _ (missing : IsLook book text at env (view_of lim w).keys dom None) where
+    pub term_leaf : (r : ℕ) → HeadDepth book text at lim env w (Some (Leaf r)) → IsDepth book text at lim env w dom (Some (r, at + 4))
     term_leaf r h z m now t d u e a =
         let n = look_none (look u m z.ms) e (missing m z.ms u e (told_at t d a)) in
         let p = h z m now t u e a n in
-        ap₂ Of p.0 (sym p.1)
+        ap₂ (λ (p q : ℕ). Some (p, q)) p.0 (sym p.1)
 
-    pub term_apply : (f k : ℕ) (r : Depth) → HeadDepth book text at lim env w (Apply f k) → IsDepths book text (at + 4) k lim env w dom r → IsDepth book text at lim env w dom r
+    pub term_apply : (f k : ℕ) (r : std.Option (ℕ × ℕ)) → HeadDepth book text at lim env w (Some (Apply f k)) → IsDepths book text (at + 4) k lim env w dom r → IsDepth book text at lim env w dom r
     unfolding unknown_depth
     term_apply f k r h i z m now t d u e a =
         let n = look_none (look u m z.ms) e (missing m z.ms u e (told_at t d a)) in
         let p = h (length z.ms) u e a in
         i z m now t d p.terms e p.there
-        ∙ ap (λ y. Of y e) (sym (depth_unknown u m now z.ms n ∙ ap (λ y. unknown_depth y m now z.ms) p.is))
+        ∙ ap (λ y. Some (y, e)) (sym (depth_unknown u m now z.ms n ∙ ap (λ y. unknown_depth y m now z.ms) p.is))
 
 -- ---- argument lists
 
-never : {C : Type 0} (d e : ℕ) → Depth.Short ≡ Of d e → C
-never d e p = let z : ◌≡◌ {A = ℕ} 0 1 = cc in absurd (omega arith)
+never : {C : Type 0} (d e : ℕ) → ◌≡◌ {A = std.Option (ℕ × ℕ)} None (Some (d, e)) → C
+never d e p = absurd (none-some (d, e) p)
 
 module _ (book text : Bytes) (at k : ℕ) (lim : Limits) (env w dom : List ℕ) where
-  pub list_end : k ≡ 0 → IsDepths book text at k lim env w dom (Of 0 at)
+  pub list_end : k ≡ 0 → IsDepths book text at k lim env w dom (Some (0, at))
   unfolding TermsText count depths depth_over
-  list_end h z m now t d nil e a = ap (Of 0) (sym a.stands)
+  list_end h z m now t d nil e a = ap (λ y. Some (0, y)) (sym a.stands)
   list_end h z m now t d (cons u us) e a = absurd (omega (arith, a.counted))
 
   module _ (none : k ≡ 0 → ⊥) where
-    pub list_short : IsDepth book text at lim env w dom Depth.Short → IsDepths book text at k lim env w dom Depth.Short
+    pub list_short : IsDepth book text at lim env w dom None → IsDepths book text at k lim env w dom None
     unfolding count
     list_short g z m now t d nil e a = absurd (none (sym a.counted))
     list_short g z m now t d (cons u us) e a =
         let f = terms_first book text at k (length z.ms) none u us e a in
         never (depth u m now z.ms) f.0 (g z m now t d u f.0 f.1.0)
 
-    module _ (x b : ℕ) (g : IsDepth book text at lim env w dom (Of x b)) where
-      pub list_stopped : IsDepths book text b (k - 1) lim env w dom Depth.Short → IsDepths book text at k lim env w dom Depth.Short
+    module _ (x b : ℕ) (g : IsDepth book text at lim env w dom (Some (x, b))) where
+      pub list_stopped : IsDepths book text b (k - 1) lim env w dom None → IsDepths book text at k lim env w dom None
       unfolding count
       list_stopped i z m now t d nil e a = absurd (none (sym a.counted))
       list_stopped i z m now t d (cons u us) e a =
@@ -146,20 +135,20 @@ module _ (book text : Bytes) (at k : ℕ) (lim : Limits) (env w dom : List ℕ) 
           let p = same (g z m now t d u f.0 f.1.0) in
           never (depth_over (depths us m now z.ms)) e (i z m now t d us e (subst (λ y. TermsAt book text y (k - 1) (length z.ms) us e) (sym p.1) f.1.1))
         where
-          same : {y c : ℕ} → Of x b ≡ Of y c → (x ≡ y) × (b ≡ c)
-          same q = (cc, cc)
+          same : {y c : ℕ} → ◌≡◌ {A = std.Option (ℕ × ℕ)} (Some (x, b)) (Some (y, c)) → (x ≡ y) × (b ≡ c)
+          same q = some_pair_parts _ _ _ _ q
 
-      pub list_more : (y c r : ℕ) → IsDepths book text b (k - 1) lim env w dom (Of y c) → r ≡ max (x + 1) y → IsDepths book text at k lim env w dom (Of r c)
+      pub list_more : (y c r : ℕ) → IsDepths book text b (k - 1) lim env w dom (Some (y, c)) → r ≡ max (x + 1) y → IsDepths book text at k lim env w dom (Some (r, c))
       unfolding count depths depth_over
       list_more y c r i q z m now t d nil e a = absurd (none (sym a.counted))
       list_more y c r i q z m now t d (cons u us) e a =
           let f = terms_first book text at k (length z.ms) none u us e a in
           let p = same (g z m now t d u f.0 f.1.0) in
           let o = rest (i z m now t d us e (subst (λ y. TermsAt book text y (k - 1) (length z.ms) us e) (sym p.1) f.1.1)) in
-          ap₂ Of (q ∙ ap₂ max (let j = p.0 in omega arith) o.0) o.1
+          ap₂ (λ (p q : ℕ). Some (p, q)) (q ∙ ap₂ max (let j = p.0 in omega arith) o.0) o.1
         where
-          same : {y c : ℕ} → Of x b ≡ Of y c → (x ≡ y) × (b ≡ c)
-          same q = (cc, cc)
+          same : {y c : ℕ} → ◌≡◌ {A = std.Option (ℕ × ℕ)} (Some (x, b)) (Some (y, c)) → (x ≡ y) × (b ≡ c)
+          same q = some_pair_parts _ _ _ _ q
 
-          rest : {s t : ℕ} → Of y c ≡ Of s t → (y ≡ s) × (c ≡ t)
-          rest q = (cc, cc)
+          rest : {s t : ℕ} → ◌≡◌ {A = std.Option (ℕ × ℕ)} (Some (y, c)) (Some (s, t)) → (y ≡ s) × (c ≡ t)
+          rest q = some_pair_parts _ _ _ _ q

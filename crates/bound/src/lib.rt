@@ -2,153 +2,143 @@
 // count of unknown ones before it, and by its depth; terms inside them only lend their depths.
 #![tactic(auto)]
 
-ghost use Rattle.std.specs.Prelude.{◌≡◌, ◌+◌, ◌≤◌, ◌<◌, length, take};
+ghost use Rattle.std.specs.Prelude.{◌≡◌, ◌+◌, ◌≤◌, ◌<◌, length};
 ghost use Rattle.rules.specs.Bound.{admits};
-ghost use Rattle.rules.specs.Calls.{bound_of};
-ghost use Rattle.look.specs.Answers.{LookGood, IsLook};
-ghost use Rattle.sheets.specs.Form.{limits_of, view_of};
+ghost use Rattle.limits.specs.Limits.{limits_of};
+ghost use Rattle.sheets.specs.Form.{view_of};
 ghost use Rattle.enter.specs.Grow.{Sturdy};
-ghost use Rattle.bound.specs.Seen.{Ready, DepthMeant};
+ghost use Rattle.bound.specs.Bounds.{bound_is, ReadsBound};
+ghost use Rattle.bound.specs.Seen.{DepthMeant};
 ghost use Rattle.bound.specs.Answers.{DepthGood, DepthsGood, DepthHeadGood, AskGood, IsDepthVariable, IsDepth, IsDepths, HeadDepth, IsAsked, IsAdmitted};
 
 use counts::function_arity;
-use enter::{Head, depth_at, depth_over, larger, now_of, resolve};
-use look::Look;
+use enter::{depth_at, depth_over, now_of, resolve};
+use limits::Limits;
+use look::{Head, KEY_END, Tables, look_term};
+use refusals::Refusal;
 use words::num16;
 
-// A depth and the place behind what has it; or the text is too short.
+// A working form, with its tables for lookup.
 #[derive(Clone, Copy)]
-pub enum Depth {
-    Short,
-    Of(u64, usize),
+pub struct Form<'a> {
+    pub w: &'a [u64],
+    pub limits: Limits,
+    pub tables: Tables<'a>,
+    pub ghost keys_are: { tables.keys.now ≡ (view_of (limits_of limits) w.now).keys },
 }
 
-// A term that is put to the bound: refused; known, or new and admitted, with the place behind it.
+// What a term that is not known yet may be.
 #[derive(Clone, Copy)]
-pub enum Asked {
-    Refused,
-    Known(usize),
-    New(usize),
+pub enum Bound {
+    Unbounded,
+    DomainSize(u64),
+    DepthPure(u64),
+    DepthReuse(u64),
 }
 
-// The element of the term at a place, looked up in the working form.
-pub fn look_here(
-    book: &[u8],
-    text: &[u8],
-    at: usize,
-    env: &[u64],
-    ne: usize,
-    w: &[u64],
-    le: usize,
-    lk: usize,
-    lf: usize,
-    dom: &[u64],
-    nd: usize,
-) -> Look
-    requires { (at ≤ length text.now) × Ready (limits_of le lk lf) env.now ne w.now dom.now nd }
-    ensures look_good { LookGood (length text.now) at result }
-    ensures look { IsLook book.now text.now at (take ne env.now) (view_of (limits_of le lk lf) w.now).keys (take nd dom.now) result }
-{
-    let n = w[3] as usize;
-    let e = 5 + lk;
-    look::look_term(book, text, at, env, ne, &w[5..e], n, dom, nd)
+impl Bound {
+    // Does the bound admit a term by the size of the domain and its depth?
+    pub fn admits(self, size: u64, depth: u64) -> bool
+        ensures { result ≡ admits (bound_is self) size depth }
+    {
+        match self {
+            Bound::Unbounded => true,
+            Bound::DomainSize(n) => size < n,
+            Bound::DepthPure(n) | Bound::DepthReuse(n) => depth <= n,
+        }
+    }
+}
+
+// The bound that a call names by its kind and a number. Unbounded has no number, and says 0.
+impl TryFrom<(u32, u32)> for Bound {
+    type Error = Refusal;
+
+    ghost try_from_gives = { λ n r. ReadsBound n.0 n.1 r };
+
+    fn try_from(setting: (u32, u32)) -> Result<Self, Refusal> {
+        match setting {
+            (0, 0) => Ok(Bound::Unbounded),
+            (1, n) => Ok(Bound::DomainSize(n as u64)),
+            (2, n) => Ok(Bound::DepthPure(n as u64)),
+            (3, n) => Ok(Bound::DepthReuse(n as u64)),
+            _ => Err(Refusal::UnknownSetting),
+        }
+    }
 }
 
 // The depth of what a variable stands for, with what elements are now.
-fn depth_meaning(w: &[u64], le: usize, lk: usize, lf: usize, x: u64) -> u64
-    requires { Sturdy (limits_of le lk lf) w.now }
-    ensures { DepthMeant (limits_of le lk lf) x w.now result }
+fn depth_meaning(w: &[u64], limits: Limits, x: u64) -> u64
+    requires { Sturdy (limits_of limits) w.now }
+    ensures { DepthMeant (limits_of limits) x w.now result }
 {
     if x < 256 {
-        return depth_at(w, le, lk, lf, now_of(w, le, lk, lf, x)) % 65536;
+        return depth_at(w, limits, now_of(w, limits, x)) % 65536;
     }
-    if x >= 72057594037927936 {
+    if x >= KEY_END {
         return 0;
     }
-    let q = resolve(w, le, lk, lf, x * 256);
-    depth_over(w, le, lk, lf, q * 256)
+    let q = resolve(w, limits, x * 256);
+    depth_over(w, limits, q * 256)
 }
 
 // The depth of a variable that is unknown.
-pub fn depth_variable(
-    env: &[u64],
-    ne: usize,
-    i: u64,
-    w: &[u64],
-    le: usize,
-    lk: usize,
-    lf: usize,
-) -> u64
-    requires { (ne ≤ length env.now) × Sturdy (limits_of le lk lf) w.now }
-    ensures { (result ≤ 65536) × IsDepthVariable (limits_of le lk lf) (take ne env.now) i w.now result }
+pub fn depth_variable(env: &[u64], i: u64, w: &[u64], limits: Limits) -> u64
+    requires { Sturdy (limits_of limits) w.now }
+    ensures { (result ≤ 65536) × IsDepthVariable (limits_of limits) env.now i w.now result }
 {
-    let at = i as usize;
-    if at >= ne {
-        return 0;
+    match env.get(i as usize) {
+        Some(x) => depth_meaning(w, limits, *x),
+        None => 0,
     }
-    depth_meaning(w, le, lk, lf, env[at])
 }
 
-// What stands first in an unknown term, a variable or a constant by its depth.
+// What stands first in an unknown term, if there is enough text: a variable or a constant by its depth.
 fn depth_head(
     book: &[u8],
     text: &[u8],
     at: usize,
     env: &[u64],
-    ne: usize,
     w: &[u64],
-    le: usize,
-    lk: usize,
-    lf: usize,
-) -> Head
-    requires { (at ≤ length text.now) × ((ne ≤ length env.now) × Sturdy (limits_of le lk lf) w.now) }
+    limits: Limits,
+) -> Option<Head<u64>>
+    requires { (at ≤ length text.now) × Sturdy (limits_of limits) w.now }
     ensures depth_head_good { DepthHeadGood (length text.now) at result }
-    ensures head_depth { HeadDepth book.now text.now at (limits_of le lk lf) (take ne env.now) w.now result }
+    ensures head_depth { HeadDepth book.now text.now at (limits_of limits) env.now w.now result }
 {
     if text.len() - at < 4 {
-        return Head::Short;
+        return None;
     }
-    let kind = num16(text, at);
     let k = num16(text, at + 2);
-    if kind == 0 {
-        return Head::Leaf(depth_variable(env, ne, k, w, le, lk, lf));
-    }
-    if kind == 1 {
-        return Head::Leaf(0);
-    }
-    Head::Apply(k, function_arity(book, k))
+    Some(match num16(text, at) {
+        0 => Head::Leaf(depth_variable(env, k, w, limits)),
+        1 => Head::Leaf(0),
+        _ => Head::Apply(k, function_arity(book, k)),
+    })
 }
 
-// The depth of the term at a place: its element's, if it is known.
+// The depth of the term at a place, its element's if it is known, and the place behind the term; or the text is too short.
 #[cycle(depth_list_depth_term)]
 pub fn depth_term(
     book: &[u8],
     text: &[u8],
     at: usize,
     env: &[u64],
-    ne: usize,
-    w: &[u64],
-    le: usize,
-    lk: usize,
-    lf: usize,
-    dom: &[u64],
-    nd: usize,
-) -> Depth
-    requires { (at ≤ length text.now) × Ready (limits_of le lk lf) env.now ne w.now dom.now nd }
+    f: &Form<'_>,
+) -> Option<(u64, usize)>
+    requires { (at ≤ length text.now) × Sturdy (limits_of f.now.limits) f.now.w.now }
     ensures depth_good { DepthGood (length text.now) at result }
-    ensures depth { IsDepth book.now text.now at (limits_of le lk lf) (take ne env.now) w.now (take nd dom.now) result }
+    ensures depth { IsDepth book.now text.now at (limits_of f.now.limits) env.now f.now.w.now f.now.tables.domain.now result }
 {
-    match look_here(book, text, at, env, ne, w, le, lk, lf, dom, nd) {
-        Look::Elem(v, e) => Depth::Of(depth_at(w, le, lk, lf, v) % 65536, e),
-        Look::Missing => match depth_head(book, text, at, env, ne, w, le, lk, lf) {
-            Head::Short => Depth::Short,
-            Head::Leaf(d) => Depth::Of(d, at + 4),
-            Head::Apply(f, n) => depth_list(book, text, at + 4, n, env, ne, w, le, lk, lf, dom, nd),
-        },
+    if let Some((v, e)) = look_term(book, text, at, env, &f.tables) {
+        return Some((depth_at(f.w, f.limits, v) % 65536, e));
+    }
+    match depth_head(book, text, at, env, f.w, f.limits)? {
+        Head::Leaf(d) => Some((d, at + 4)),
+        Head::Apply(k, n) => depth_list(book, text, at + 4, n, env, f),
     }
 }
 
-// The depth over the arguments at a place, so many.
+// The depth over the arguments at a place, so many, and the place behind them.
 #[cycle(depth_list_depth_term)]
 pub fn depth_list(
     book: &[u8],
@@ -156,89 +146,42 @@ pub fn depth_list(
     at: usize,
     count: u64,
     env: &[u64],
-    ne: usize,
-    w: &[u64],
-    le: usize,
-    lk: usize,
-    lf: usize,
-    dom: &[u64],
-    nd: usize,
-) -> Depth
-    requires { (at ≤ length text.now) × Ready (limits_of le lk lf) env.now ne w.now dom.now nd }
+    f: &Form<'_>,
+) -> Option<(u64, usize)>
+    requires { (at ≤ length text.now) × Sturdy (limits_of f.now.limits) f.now.w.now }
     ensures depths_good { DepthsGood (length text.now) at result }
-    ensures depths { IsDepths book.now text.now at count (limits_of le lk lf) (take ne env.now) w.now (take nd dom.now) result }
+    ensures depths { IsDepths book.now text.now at count (limits_of f.now.limits) env.now f.now.w.now f.now.tables.domain.now result }
 {
     if count == 0 {
-        return Depth::Of(0, at);
+        return Some((0, at));
     }
-    match depth_term(book, text, at, env, ne, w, le, lk, lf, dom, nd) {
-        Depth::Short => Depth::Short,
-        Depth::Of(d, e) => match depth_list(
-            book,
-            text,
-            e,
-            count - 1,
-            env,
-            ne,
-            w,
-            le,
-            lk,
-            lf,
-            dom,
-            nd,
-        ) {
-            Depth::Short => Depth::Short,
-            Depth::Of(r, g) => Depth::Of(larger(d + 1, r), g),
-        },
-    }
+    let (d, e) = depth_term(book, text, at, env, f)?;
+    let (r, g) = depth_list(book, text, e, count - 1, env, f)?;
+    Some(((d + 1).max(r), g))
 }
 
-// Does the bound admit a term by size and depth?
-pub fn admits(kind: u64, number: u64, size: u64, depth: u64) -> bool
-    ensures { result ≡ admits (bound_of kind number) size depth }
-{
-    if kind == 0 {
-        return true;
-    }
-    if kind == 1 {
-        return size < number;
-    }
-    depth <= number
-}
-
-// The term at a place put to the bound, unless it is known.
+// The term at a place put to the bound, unless it is known: the place behind it and the count with it, or it is refused.
 fn ask(
     book: &[u8],
     text: &[u8],
     at: usize,
-    kind: u64,
-    number: u64,
+    b: Bound,
     size: u64,
     env: &[u64],
-    ne: usize,
-    w: &[u64],
-    le: usize,
-    lk: usize,
-    lf: usize,
-    dom: &[u64],
-    nd: usize,
-) -> Asked
-    requires { (at ≤ length text.now) × Ready (limits_of le lk lf) env.now ne w.now dom.now nd }
-    ensures ask_good { AskGood (length text.now) at result }
-    ensures asked { IsAsked book.now text.now at (bound_of kind number) size (limits_of le lk lf) (take ne env.now) w.now (take nd dom.now) result }
+    f: &Form<'_>,
+) -> Option<(usize, u64)>
+    requires { (at ≤ length text.now) × ((size < 9223372036854775808) × Sturdy (limits_of f.now.limits) f.now.w.now) }
+    ensures ask_good { AskGood (length text.now) at size result }
+    ensures asked { IsAsked book.now text.now at (bound_is b) size (limits_of f.now.limits) env.now f.now.w.now f.now.tables.domain.now result }
 {
-    match look_here(book, text, at, env, ne, w, le, lk, lf, dom, nd) {
-        Look::Elem(v, e) => Asked::Known(e),
-        Look::Missing => match depth_term(book, text, at, env, ne, w, le, lk, lf, dom, nd) {
-            Depth::Short => Asked::Refused,
-            Depth::Of(d, e) => {
-                if admits(kind, number, size, d) {
-                    return Asked::New(e);
-                }
-                Asked::Refused
-            }
-        },
+    if let Some((_, e)) = look_term(book, text, at, env, &f.tables) {
+        return Some((e, size));
     }
+    let (d, e) = depth_term(book, text, at, env, f)?;
+    if b.admits(size, d) {
+        return Some((e, size + 1));
+    }
+    None
 }
 
 // Does the bound admit the unknown ones among the terms at a place, so many?
@@ -247,61 +190,22 @@ pub fn admitted(
     text: &[u8],
     at: usize,
     count: u64,
-    kind: u64,
-    number: u64,
+    b: Bound,
     size: u64,
     env: &[u64],
-    ne: usize,
-    w: &[u64],
-    le: usize,
-    lk: usize,
-    lf: usize,
-    dom: &[u64],
-    nd: usize,
+    f: &Form<'_>,
 ) -> bool
-    requires { (at ≤ length text.now) × ((size + count < 9223372036854775808) × Ready (limits_of le lk lf) env.now ne w.now dom.now nd) }
-    ensures { IsAdmitted book.now text.now at count (bound_of kind number) size (limits_of le lk lf) (take ne env.now) w.now (take nd dom.now) result }
+    requires { (at ≤ length text.now) × ((size + count < 9223372036854775808) × Sturdy (limits_of f.now.limits) f.now.w.now) }
+    ensures { IsAdmitted book.now text.now at count (bound_is b) size (limits_of f.now.limits) env.now f.now.w.now f.now.tables.domain.now result }
 {
-    if count == 0 {
-        return true;
+    let mut p = at;
+    let mut n = size;
+    for i in 0..count {
+        let Some((e, more)) = ask(book, text, p, b, n, env, f) else {
+            return false;
+        };
+        p = e;
+        n = more;
     }
-    match ask(
-        book, text, at, kind, number, size, env, ne, w, le, lk, lf, dom, nd,
-    ) {
-        Asked::Refused => false,
-        Asked::Known(e) => admitted(
-            book,
-            text,
-            e,
-            count - 1,
-            kind,
-            number,
-            size,
-            env,
-            ne,
-            w,
-            le,
-            lk,
-            lf,
-            dom,
-            nd,
-        ),
-        Asked::New(e) => admitted(
-            book,
-            text,
-            e,
-            count - 1,
-            kind,
-            number,
-            size + 1,
-            env,
-            ne,
-            w,
-            le,
-            lk,
-            lf,
-            dom,
-            nd,
-        ),
-    }
+    true
 }

@@ -4,20 +4,21 @@
 
 ghost use Rattle.rules.specs.Calls.{OpenPromise, StepPromise, RunPromise, TakePromise};
 
+use refusals::answer;
 use running::Ran;
 
 #[unsafe(no_mangle)]
 pub extern "C" fn chase_open(book: &[u8], pool: &mut [u8], scheduler: u32, strategy: u32) -> u32
     ensures { OpenPromise book.now pool.old scheduler strategy result pool.new }
 {
-    openings::open(book, pool, scheduler, strategy)
+    answer(openings::open(book, pool, scheduler, strategy))
 }
 
 #[unsafe(no_mangle)]
 pub extern "C" fn chase_step(book: &[u8], pool: &mut [u8], bound: u32, number: u32) -> u32
     ensures { StepPromise book.now pool.old bound number result pool.new }
 {
-    running::step(book, pool, bound, number)
+    answer(running::step(book, pool, bound, number))
 }
 
 #[unsafe(no_mangle)]
@@ -37,5 +38,5 @@ pub extern "C" fn chase_run(
 pub extern "C" fn chase_take(book: &[u8], pool: &mut [u8], list: u32, out: &mut [u8]) -> u32
     ensures { TakePromise book.now pool.old list out.old result pool.new out.new }
 {
-    takings::take(book, pool, list, out)
+    answer(takings::take(book, pool, list, out))
 }

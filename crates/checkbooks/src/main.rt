@@ -2,58 +2,35 @@
 // for each a line says where it ends, or its refusal and the place of the fault.
 #![tactic(auto)]
 
-use numbers::Checked;
-
-// The descriptor of standard output.
-const STDOUT_FILENO: i32 = 1;
-
-fn say(word: &[u8], x: u64) {
-    io::write_all(STDOUT_FILENO, word);
-    io::print_decimal(STDOUT_FILENO, x);
-}
+use records::{MOST, Stop, read, read_head, say, size, word};
 
 fn report(bytes: &[u8]) {
     match book::check_book(bytes) {
-        Checked::Ends(e) => {
-            say(b"ends at ", e as u64);
-        }
-        Checked::Refused(n, p) => {
-            say(b"refused ", n as u64);
-            say(b" at ", p as u64);
+        Ok(e) => say(b"ends at ", e as u64),
+        Err(f) => {
+            say(b"refused ", u64::from(u32::from(f.refusal)));
+            say(b" at ", f.at as u64);
         }
     }
-    io::write_all(STDOUT_FILENO, b"\n");
+    word(b"\n");
 }
 
-// The next book, if there is one, and its line.
-fn next(buf: &mut [u8]) -> bool {
-    let mut head = [0u8; 4];
-    if io::read_full(0, &mut head) < 4 {
-        return false;
-    }
-    let n = words::num32(&head, 0) as usize;
-    if buf.len() < n {
-        return false;
-    }
-    if io::read_full(0, &mut buf[0..n]) < n {
-        return false;
-    }
-    report(&buf[0..n]);
-    true
+// The next book and its line.
+fn next(room: &mut [u8]) -> Result<(), Stop> {
+    let mut head = [0; 4];
+    read_head(&mut head)?;
+    let book = room.get_mut(..size(&head, 0)).ok_or(Stop::Unfit)?;
+    read(book)?;
+    report(book);
+    Ok(())
 }
 
-fn all(buf: &mut [u8]) {
-    let mut left: u64 = 1000000;
-    while left > 0 {
-        if next(buf) {
-            left -= 1;
-        } else {
+// No last line says why it ends.
+fn main() {
+    let mut room = [0; 40000];
+    for _ in 0..MOST {
+        if next(&mut room).is_err() {
             return;
         }
     }
-}
-
-fn main() {
-    let mut buf = [0u8; 40000];
-    all(&mut buf);
 }

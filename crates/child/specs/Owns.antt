@@ -1,5 +1,5 @@
 -- The identities of existentials that no literal has, told one after another.
-use Rattle.std.specs.Prelude.{◌≡◌, refl, ℕ, suc, ◌+◌, ◌-◌, ◌≤◌, ◌<◌, Bool, true}
+use Rattle.std.specs.Prelude.{◌≡◌, refl, ℕ, suc, ◌+◌, ◌-◌, ◌≤◌, ◌<◌, Bool, true, Result, Ok, Err}
 use Rattle.std.proofs.Common.{sym, ap, ◌∙◌, arith}
 use Rattle.std.proofs.Math.Path.{subst}
 use Rattle.std.proofs.Math.Bool.{false}
@@ -17,6 +17,7 @@ use Rattle.texts.specs.Names.{names_in}
 use Rattle.mentions.specs.Rows.{MentionsOne}
 use Rattle.enter.specs.Terms.{Setting}
 use Rattle.telling.specs.Literals.{Held, Goes}
+use Rattle.telling.specs.declared.TooLarge.{TooLarge}
 use Rattle.child.specs.Own.{own, IsOwn}
 use Rattle.child.specs.Tells.{tells_stay, tells_then, LiteralsAt}
 
@@ -34,27 +35,26 @@ appended_first v o os ls = go (any (in_literal v) ls)
 
 -- ---- one existential
 
-abbrev pub IsExistential : Bytes → Bytes → ℕ → ℕ → Bound → Limits → List ℕ → ℕ → Bool → List ℕ → Bool → Bool → List ℕ → Type 0
-IsExistential book text at n b lim env v before w cut over w' = (z : Setting book lim env) (c : Child) → Held book lim env z w c → before ≡ c.cut → v < length z.ms
-    → (ls : List Literal) (e : ℕ) → LiteralsAt book text at n (length z.ms) ls e → Goes book lim env z (tells lim b z.ms (own_of v ls) c) cut over w'
+abbrev pub IsExistential : Bytes → Bytes → ℕ → ℕ → Bound → Limits → List ℕ → ℕ → Bool → List ℕ → Result Bool TooLarge → List ℕ → Type 0
+IsExistential book text at n b lim env v before w r w' = (z : Setting book lim env) (c : Child) → Held book lim env z w c → before ≡ c.cut → v < length z.ms
+    → (ls : List Literal) (e : ℕ) → LiteralsAt book text at n (length z.ms) ls e → Goes book lim env z (tells lim b z.ms (own_of v ls) c) r w'
 
 module _ (book text : Bytes) (at n : ℕ) (b : Bound) (lim : Limits) (env : List ℕ) (v : ℕ) (before : Bool) (w : List ℕ) (r : Bool)
     (m : MentionsOne (names_in book) text v at n r) where
-  pub existential_there : r ≡ true → IsExistential book text at n b lim env v before w before false w
+  pub existential_there : r ≡ true → IsExistential book text at n b lim env v before w (Ok before) w
   unfolding own_of tells if
-  existential_there q z c h p l ls e a =
-      rw (sym (m ls e a.follow a.counted a.fits) ∙ q) (record { held = λ _. h; skipped = λ _. p; full = λ t. absurd (subst T (sym t) tt) })
+  existential_there q z c h p l ls e a = rw (sym (m ls e a.follow a.counted a.fits) ∙ q) (h, p)
 
-  pub existential_told : r ≡ false → (cut over : Bool) (w' : List ℕ) → IsOwn b lim env v before w cut over w' → IsExistential book text at n b lim env v before w cut over w'
+  pub existential_told : r ≡ false → (o : Result Bool TooLarge) (w' : List ℕ) → IsOwn b lim env v before w o w' → IsExistential book text at n b lim env v before w o w'
   unfolding own_of tells if
-  existential_told q cut over w' g z c h p l ls e a = rw (sym (m ls e a.follow a.counted a.fits) ∙ q) (g book z c h p l)
+  existential_told q o w' g z c h p l ls e a = rw (sym (m ls e a.follow a.counted a.fits) ∙ q) (g book z c h p l)
 
 -- ---- all of them
 
-abbrev pub IsOwns : Bytes → Bytes → ℕ → ℕ → Bound → Limits → List ℕ → ℕ → ℕ → Bool → List ℕ → Bool → Bool → List ℕ → Type 0
-IsOwns book text at n b lim env v k before w cut over w' = (z : Setting book lim env) (c : Child) → Held book lim env z w c → before ≡ c.cut → v + k ≤ length z.ms
+abbrev pub IsOwns : Bytes → Bytes → ℕ → ℕ → Bound → Limits → List ℕ → ℕ → ℕ → Bool → List ℕ → Result Bool TooLarge → List ℕ → Type 0
+IsOwns book text at n b lim env v k before w r w' = (z : Setting book lim env) (c : Child) → Held book lim env z w c → before ≡ c.cut → v + k ≤ length z.ms
     → (ls : List Literal) (e : ℕ) → LiteralsAt book text at n (length z.ms) ls e → (os : List Origin) → length os ≡ k
-    → Goes book lim env z (tells lim b z.ms (appended v os ls) c) cut over w'
+    → Goes book lim env z (tells lim b z.ms (appended v os ls) c) r w'
 
 pub record Going (book : Bytes) (k : ℕ) (b : Bound) (lim : Limits) (env : List ℕ) (z : Setting book lim env) (w : List ℕ) (cut : Bool) (v : ℕ) (ls : List Literal) (whole : Child) : Type 0 where
   pub child : Child
@@ -76,22 +76,21 @@ module _ (book text : Bytes) (at n : ℕ) (b : Bound) (lim : Limits) (env : List
       record { child = c; held = h; skipped = p; rest = os; counted = omega arith; is = ap (λ u. tells lim b z.ms (appended u os ls) c) y }
 
   module _ (i : ℕ) (cut : Bool) (w : List ℕ) (r : Left i cut w) where
-    pub left_end : k ≤ i → IsOwns book text at n b lim env v k before w₀ cut false w
+    pub left_end : k ≤ i → IsOwns book text at n b lim env v k before w₀ (Ok cut) w
     unfolding tells appended
     left_end h z c s p l ls e a os q = let g = r z c s p l ls e a os q in go g g.rest g.counted g.is
       where
         go : (g : Going book (k - i) b lim env z w cut (v + i) ls (tells lim b z.ms (appended v os ls) c)) (xs : List Origin) → length xs ≡ k - i
-            → tells lim b z.ms (appended v os ls) c ≡ tells lim b z.ms (appended (v + i) xs ls) g.child → Goes book lim env z (tells lim b z.ms (appended v os ls) c) cut false w
-        go g [] y j = subst (λ (x : Child). Goes book lim env z x cut false w) (sym j)
-            (record { held = λ _. g.held; skipped = λ _. g.skipped; full = λ t. absurd (subst T (sym t) tt) })
+            → tells lim b z.ms (appended v os ls) c ≡ tells lim b z.ms (appended (v + i) xs ls) g.child → Goes book lim env z (tells lim b z.ms (appended v os ls) c) (Ok cut) w
+        go g [] y j = subst (λ (x : Child). Goes book lim env z x (Ok cut) w) (sym j) (g.held, g.skipped)
         go g (x ∷ xs) y j = absurd (omega arith)
 
-    module _ (inside : i < k) (cut' over : Bool) (w' : List ℕ) (t : IsExistential book text at n b lim env (v + i) cut w cut' over w') where
+    module _ (inside : i < k) (o : Result Bool TooLarge) (w' : List ℕ) (t : IsExistential book text at n b lim env (v + i) cut w o w') where
       -- The next existential told.
       step : {C : Type 0} (z : Setting book lim env) (ls : List Literal) (e : ℕ) → LiteralsAt book text at n (length z.ms) ls e → v + k ≤ length z.ms → (whole : Child)
           (g : Going book (k - i) b lim env z w cut (v + i) ls whole)
           → ((xs : List Origin) → length xs ≡ k - (i + 1) → whole ≡ tells lim b z.ms (appended (v + (i + 1)) xs ls) (tells lim b z.ms (own_of (v + i) ls) g.child)
-          → Goes book lim env z (tells lim b z.ms (own_of (v + i) ls) g.child) cut' over w' → C) → C
+          → Goes book lim env z (tells lim b z.ms (own_of (v + i) ls) g.child) o w' → C) → C
       step {C} z ls e a l whole g f = go g.rest g.counted g.is
         where
           go : (xs : List Origin) → length xs ≡ k - i → whole ≡ tells lim b z.ms (appended (v + i) xs ls) g.child → C
@@ -103,20 +102,17 @@ module _ (book text : Bytes) (at n : ℕ) (b : Bound) (lim : Limits) (env : List
               ∙ tells_then lim b z.ms (own_of (v + i) ls) (appended (v + (i + 1)) xs ls) g.child)
               (t z g.child g.held g.skipped (omega arith) ls e a)
 
-      pub left_over : over ≡ true → IsOwns book text at n b lim env v k before w₀ cut' over w'
-      left_over o z c s p l ls e a os q = step z ls e a l (tells lim b z.ms (appended v os ls) c) (r z c s p l ls e a os q)
-          (λ xs y j g. record {
-            held = λ f. absurd (subst T (sym o ∙ f) tt);
-            skipped = λ f. absurd (subst T (sym o ∙ f) tt);
-            full = λ _. subst (λ (u : Child). T u.over) (sym j) (tells_stay lim b z.ms _ _ (g.full o));
-          })
+    pub left_over : i < k → (f : TooLarge) (w' : List ℕ) → IsExistential book text at n b lim env (v + i) cut w (Err f) w' → IsOwns book text at n b lim env v k before w₀ (Err f) w'
+    left_over inside f w' t z c s p l ls e a os q = step inside (Err f) w' t z ls e a l (tells lim b z.ms (appended v os ls) c) (r z c s p l ls e a os q)
+        (λ xs y j g. subst (λ (u : Child). T u.over) (sym j) (tells_stay lim b z.ms _ _ g))
 
-      pub left_next : over ≡ false → Left (i + 1) cut' w'
-      left_next o z c s p l ls e a os q = step z ls e a l (tells lim b z.ms (appended v os ls) c) (r z c s p l ls e a os q)
+    module _ (inside : i < k) (cut' : Bool) (w' : List ℕ) (t : IsExistential book text at n b lim env (v + i) cut w (Ok cut') w') where
+      pub left_next : Left (i + 1) cut' w'
+      left_next z c s p l ls e a os q = step inside (Ok cut') w' t z ls e a l (tells lim b z.ms (appended v os ls) c) (r z c s p l ls e a os q)
           (λ xs y j g. record {
             child = tells lim b z.ms (own_of (v + i) ls) (r z c s p l ls e a os q).child;
-            held = g.held o;
-            skipped = g.skipped o;
+            held = g.0;
+            skipped = g.1;
             rest = xs;
             counted = y;
             is = j;

@@ -1,8 +1,7 @@
 -- Literals told one after another, and that a child which needed more room than there is stays so.
-use Rattle.std.specs.Prelude.{◌≡◌, refl, ℕ, ◌+◌, ◌-◌, ◌≤◌, ◌<◌, Bool, true}
-use Rattle.std.proofs.Common.{sym, ◌∙◌, arith}
+use Rattle.std.specs.Prelude.{◌≡◌, refl, ℕ, ◌+◌, ◌-◌, ◌≤◌, ◌<◌, Bool, Result, Ok, Err}
+use Rattle.std.proofs.Common.{sym, arith}
 use Rattle.std.proofs.Math.Path.{subst}
-use Rattle.std.proofs.Math.Bool.{false}
 use mathlib.Core.List.{List, [], ◌∷◌, ◌++◌}
 use Rattle.std.proofs.Math.ListN.{length}
 use Rattle.std.proofs.Math.Dec.{T}
@@ -22,6 +21,7 @@ use Rattle.texts.specs.Parts.{literals_grow}
 use Rattle.skips.specs.Rest.{Skips}
 use Rattle.enter.specs.Terms.{Setting}
 use Rattle.telling.specs.Literals.{Held, Goes, IsTold}
+use Rattle.telling.specs.declared.TooLarge.{TooLarge}
 
 -- ---- too big once is too big for good
 
@@ -54,9 +54,9 @@ pub record LiteralsAt (book text : Bytes) (at k n : ℕ) (ls : List Literal) (e 
   pub counted : length ls ≡ k
   pub fits : e ≤ length text
 
-abbrev pub IsTells : Bytes → Bytes → ℕ → ℕ → Bound → Limits → List ℕ → Bool → List ℕ → Bool → Bool → List ℕ → Type 0
-IsTells book text at k b lim env before w cut over w' = (z : Setting book lim env) (c : Child) → Held book lim env z w c → before ≡ c.cut
-    → (ls : List Literal) (e : ℕ) → LiteralsAt book text at k (length z.ms) ls e → Goes book lim env z (tells lim b z.ms ls c) cut over w'
+abbrev pub IsTells : Bytes → Bytes → ℕ → ℕ → Bound → Limits → List ℕ → Bool → List ℕ → Result Bool TooLarge → List ℕ → Type 0
+IsTells book text at k b lim env before w r w' = (z : Setting book lim env) (c : Child) → Held book lim env z w c → before ≡ c.cut
+    → (ls : List Literal) (e : ℕ) → LiteralsAt book text at k (length z.ms) ls e → Goes book lim env z (tells lim b z.ms ls c) r w'
 
 -- ---- after some of them: what is left, and the child that they are to be told to
 
@@ -84,21 +84,20 @@ module _ (book text : Bytes) (at n : ℕ) (b : Bound) (lim : Limits) (env : List
   }
 
   module _ (i p : ℕ) (cut : Bool) (w : List ℕ) (r : Left i p cut w) where
-    pub left_end : n ≤ i → IsTells book text at n b lim env before w₀ cut false w
+    pub left_end : n ≤ i → IsTells book text at n b lim env before w₀ (Ok cut) w
     unfolding tells
     left_end h z c s q ls e a = let g = r z c s q ls e a in go g g.rest g.there.counted g.is
       where
         go : (g : Going book text p (n - i) b lim env z w cut e (tells lim b z.ms ls c)) (xs : List Literal) → length xs ≡ n - i → tells lim b z.ms ls c ≡ tells lim b z.ms xs g.child
-            → Goes book lim env z (tells lim b z.ms ls c) cut false w
-        go g [] y j = subst (λ (k : Child). Goes book lim env z k cut false w) (sym j)
-            (record { held = λ _. g.held; skipped = λ _. g.skipped; full = λ t. absurd (subst T (sym t) tt) })
+            → Goes book lim env z (tells lim b z.ms ls c) (Ok cut) w
+        go g [] y j = subst (λ (k : Child). Goes book lim env z k (Ok cut) w) (sym j) (g.held, g.skipped)
         go g (x ∷ xs) y j = absurd (omega arith)
 
-    module _ (inside : i < n) (cut' over : Bool) (w' : List ℕ) (t : IsTold book text p b lim env cut w cut' over w') where
+    module _ (inside : i < n) (o : Result Bool TooLarge) (w' : List ℕ) (t : IsTold book text p b lim env cut w o w') where
       -- The next literal told.
       step : {C : Type 0} (z : Setting book lim env) (e : ℕ) (whole : Child) (g : Going book text p (n - i) b lim env z w cut e whole)
           → ((x : Literal) (xs : List Literal) (m : ℕ) → LiteralText (names_in book) text p x m → m ≤ length text → LiteralsAt book text m (n - (i + 1)) (length z.ms) xs e
-          → whole ≡ tells lim b z.ms xs (tell lim b z.ms x g.child) → Goes book lim env z (tell lim b z.ms x g.child) cut' over w' → C) → C
+          → whole ≡ tells lim b z.ms xs (tell lim b z.ms x g.child) → Goes book lim env z (tell lim b z.ms x g.child) o w' → C) → C
       unfolding tells Follow
       step {C} z e whole g f = go g.rest g.there g.is
         where
@@ -110,20 +109,17 @@ module _ (book text : Bytes) (at n : ℕ) (b : Bound) (lim : Limits) (env : List
               f x xs m a.follow.1.0 (omega (arith, a.fits)) (record { wf = a.wf.1; follow = a.follow.1.1; counted = omega (arith, a.counted); fits = a.fits }) j
               (t z g.child g.held g.skipped x m (record { wf = a.wf.0; stands = a.follow.1.0; fits = omega (arith, a.fits) }))
 
-      pub left_over : over ≡ true → IsTells book text at n b lim env before w₀ cut' over w'
-      left_over o z c s q ls e a = step z e (tells lim b z.ms ls c) (r z c s q ls e a)
-          (λ x xs m _ _ _ j k. record {
-            held = λ f. absurd (subst T (sym o ∙ f) tt);
-            skipped = λ f. absurd (subst T (sym o ∙ f) tt);
-            full = λ _. subst (λ (y : Child). T y.over) (sym j) (tells_stay lim b z.ms xs _ (k.full o));
-          })
+    pub left_over : i < n → (f : TooLarge) (w' : List ℕ) → IsTold book text p b lim env cut w (Err f) w' → IsTells book text at n b lim env before w₀ (Err f) w'
+    left_over inside f w' t z c s q ls e a =
+        step inside (Err f) w' t z e (tells lim b z.ms ls c) (r z c s q ls e a) (λ x xs m _ _ _ j k. subst (λ (y : Child). T y.over) (sym j) (tells_stay lim b z.ms xs _ k))
 
-      pub left_next : over ≡ false → (p' : ℕ) → Skips (LiteralText (names_in book) text) (length text) p p' → Left (i + 1) p' cut' w'
-      left_next o p' f z c s q ls e a = step z e (tells lim b z.ms ls c) (r z c s q ls e a)
+    module _ (inside : i < n) (cut' : Bool) (w' : List ℕ) (t : IsTold book text p b lim env cut w (Ok cut') w') where
+      pub left_next : (p' : ℕ) → Skips (LiteralText (names_in book) text) (length text) p p' → Left (i + 1) p' cut' w'
+      left_next p' f z c s q ls e a = step inside (Ok cut') w' t z e (tells lim b z.ms ls c) (r z c s q ls e a)
           (λ x xs m y l d j k. record {
             child = tell lim b z.ms x (r z c s q ls e a).child;
-            held = k.held o;
-            skipped = k.skipped o;
+            held = k.0;
+            skipped = k.1;
             rest = xs;
             there = subst (λ u. LiteralsAt book text u (n - (i + 1)) (length z.ms) xs e) (sym (f x m y l)) d;
             is = j;

@@ -1,6 +1,6 @@
 -- A child as a whole: for a form that holds the base, the literals of a disjunct and then the identities of its existentials that no
 -- literal has are the child of the completed disjunct.
-use Rattle.std.specs.Prelude.{◌≡◌, ℕ, zero, suc, ◌+◌, ◌-◌, ◌≤◌, ◌<◌, Bool, true, false, List, map, length, T}
+use Rattle.std.specs.Prelude.{◌≡◌, ℕ, zero, suc, ◌+◌, ◌-◌, ◌≤◌, ◌<◌, Bool, true, false, List, map, length, T, Result, Ok, Err}
 use Rattle.std.proofs.Math.Path.{refl}
 use Rattle.std.proofs.Common.{sym, ap, ◌∙◌, subst, arith}
 use Rattle.base.specs.Lists.{All, from}
@@ -26,6 +26,7 @@ use Rattle.look.specs.Shown.{pack_meaning}
 use Rattle.enter.specs.Keep.{Carries}
 use Rattle.enter.specs.Terms.{Setting}
 use Rattle.telling.specs.Literals.{Held, Goes}
+use Rattle.telling.specs.declared.TooLarge.{TooLarge}
 use Rattle.child.specs.Tells.{tells_stay, tells_then, LiteralsAt, IsTells}
 use Rattle.child.specs.Owns.{IsOwns}
 
@@ -41,22 +42,27 @@ pub record Base (book : Bytes) (lim : Limits) (env w : List ℕ) (m : Model) (c 
   pub wf : WfDisjunct (names_in book) (length c) d
   pub env_is : env ≡ map pack_meaning (head_meanings c d)
 
--- Over: the child needed more room than there is. Else the form carries its model.
-pub record Made (lim : Limits) (k : Child) (cut over : Bool) (w' : List ℕ) : Type 0 where
-  pub full : over ≡ k.over
-  pub carries : over ≡ false → Carries lim w' k.model k.now
-  pub skipped : over ≡ false → cut ≡ k.cut
+-- The child is within its limits: the form carries its model.
+pub record InRoom (lim : Limits) (k : Child) (cut : Bool) (w' : List ℕ) : Type 0 where
+  pub within : k.over ≡ false
+  pub carries : Carries lim w' k.model k.now
+  pub skipped : cut ≡ k.cut
 
-abbrev pub IsChild : Bytes → Bytes → ℕ → ℕ → Bound → Limits → List ℕ → List ℕ → Bool → Bool → List ℕ → Type 0
-IsChild book text at free b lim env w cut over w' = (m : Model) (c : List ℕ) (d : Disjunct) (e : ℕ) → Base book lim env w m c d → length c ≡ free
-    → DisjunctText (names_in book) text at d e → e ≤ length text → Made lim (child lim b m c (completed_disjunct free d)) cut over w'
+-- It is, or it needed more room than there is.
+abbrev pub Made : Limits → Child → Result Bool TooLarge → List ℕ → Type 0
+Made lim k (Ok cut) w' = InRoom lim k cut w'
+Made lim k (Err e) w' = k.over ≡ true
+
+abbrev pub IsChild : Bytes → Bytes → ℕ → ℕ → Bound → Limits → List ℕ → List ℕ → Result Bool TooLarge → List ℕ → Type 0
+IsChild book text at free b lim env w r w' = (m : Model) (c : List ℕ) (d : Disjunct) (e : ℕ) → Base book lim env w m c d → length c ≡ free
+    → DisjunctText (names_in book) text at d e → e ≤ length text → Made lim (child lim b m c (completed_disjunct free d)) r w'
 
 below_all : (n a : ℕ) → a + n ≤ 256 → All Octet (from a n)
 unfolding from
 below_all zero a h = tt
 below_all (suc n) a h = (omega arith, below_all n (suc a) (omega arith))
 
-true_is : (b : Bool) → T b → true ≡ b
+true_is : (b : Bool) → T b → b ≡ true
 true_is true t = refl
 true_is false t = absurd t
 
@@ -91,17 +97,17 @@ module _ (book text : Bytes) (at free : ℕ) (b : Bound) (lim : Limits) (few : l
   unfolding child completed_disjunct head_meanings
   child_is m c d = tells_then lim b (head_meanings c d) d.literals (appended free d.origins d.literals) (newborn m)
 
-  pub child_short : length text - at < 2 → (cut over : Bool) (w' : List ℕ) → IsChild book text at free b lim env w cut over w'
-  child_short h cut over w' m c d e g q t l = let r = disjunct_grows (names_in book) text at d e t in absurd (omega arith)
+  pub child_short : length text - at < 2 → (o : Result Bool TooLarge) (w' : List ℕ) → IsChild book text at free b lim env w o w'
+  child_short h o w' m c d e g q t l = let r = disjunct_grows (names_in book) text at d e t in absurd (omega arith)
 
   module _ (middle : ℕ) (skip : SkipsMany (OriginText (names_in book) text) (length text) (at + 2) (num text at) middle) where
     middle_is : (d : Disjunct) (e : ℕ) (t : DisjunctText (names_in book) text at d e) → e ≤ length text → middle ≡ t.middle
     middle_is d e t l = let r = disjunct_grows (names_in book) text at d e t in skip d.origins t.middle t.origins (sym t.count) (omega arith)
 
-    pub child_cut_off : length text - middle < 2 → (cut over : Bool) (w' : List ℕ) → IsChild book text at free b lim env w cut over w'
-    child_cut_off h cut over w' m c d e g q t l = let r = disjunct_grows (names_in book) text at d e t in let i = middle_is d e t l in absurd (omega arith)
+    pub child_cut_off : length text - middle < 2 → (o : Result Bool TooLarge) (w' : List ℕ) → IsChild book text at free b lim env w o w'
+    child_cut_off h o w' m c d e g q t l = let r = disjunct_grows (names_in book) text at d e t in let i = middle_is d e t l in absurd (omega arith)
 
-    module _ (n : ℕ) (is : n ≡ num text middle) (cut over : Bool) (w₁ : List ℕ) (first : IsTells book text (middle + 2) n b lim env false w cut over w₁) where
+    module _ (n : ℕ) (is : n ≡ num text middle) where
       literals_at : (m : Model) (c : List ℕ) (d : Disjunct) (e : ℕ) (g : Base book lim env w m c d) → DisjunctText (names_in book) text at d e → e ≤ length text
           → LiteralsAt book text (middle + 2) n (length (head_meanings c d)) d.literals e
       literals_at m c d e g t l =
@@ -113,31 +119,28 @@ module _ (book text : Bytes) (at free : ℕ) (b : Bound) (lim : Limits) (few : l
             fits = l;
           }
 
-      told : (m : Model) (c : List ℕ) (d : Disjunct) (e : ℕ) (g : Base book lim env w m c d) → DisjunctText (names_in book) text at d e → e ≤ length text
-          → Goes book lim env (setting m c d g) (tells lim b (head_meanings c d) d.literals (newborn m)) cut over w₁
+      told : (o : Result Bool TooLarge) (w₁ : List ℕ) → IsTells book text (middle + 2) n b lim env false w o w₁ → (m : Model) (c : List ℕ) (d : Disjunct) (e : ℕ) (g : Base book lim env w m c d)
+          → DisjunctText (names_in book) text at d e → e ≤ length text → Goes book lim env (setting m c d g) (tells lim b (head_meanings c d) d.literals (newborn m)) o w₁
       unfolding setting
-      told m c d e g t l = first (setting m c d g) (newborn m) (born m c d g) refl d.literals e (literals_at m c d e g t l)
+      told o w₁ first m c d e g t l = first (setting m c d g) (newborn m) (born m c d g) refl d.literals e (literals_at m c d e g t l)
 
-      pub child_over : over ≡ true → IsChild book text at free b lim env w cut over w₁
-      child_over o m c d e g q t l =
-          let f = tells_stay lim b (head_meanings c d) (appended free d.origins d.literals) _ ((told m c d e g t l).full o) in
-          record {
-            full = o ∙ true_is _ (subst (λ (k : Child). T k.over) (sym (child_is m c d)) f);
-            carries = λ x. absurd (subst T (sym o ∙ x) tt);
-            skipped = λ x. absurd (subst T (sym o ∙ x) tt);
-          }
+      pub child_over : (f : TooLarge) (w₁ : List ℕ) → IsTells book text (middle + 2) n b lim env false w (Err f) w₁ → IsChild book text at free b lim env w (Err f) w₁
+      child_over f w₁ first m c d e g q t l =
+          let k = tells_stay lim b (head_meanings c d) (appended free d.origins d.literals) _ (told (Err f) w₁ first m c d e g t l) in
+          true_is _ (subst (λ (k : Child). T k.over) (sym (child_is m c d)) k)
 
-      module _ (o : over ≡ false) (cut' over' : Bool) (w₂ : List ℕ) (rest : IsOwns book text (middle + 2) n b lim env free (num text at) cut w₁ cut' over' w₂) where
+      module _ (cut : Bool) (w₁ : List ℕ) (first : IsTells book text (middle + 2) n b lim env false w (Ok cut) w₁) (o : Result Bool TooLarge) (w₂ : List ℕ)
+          (rest : IsOwns book text (middle + 2) n b lim env free (num text at) cut w₁ o w₂) where
         goes : (m : Model) (c : List ℕ) (d : Disjunct) (e : ℕ) (g : Base book lim env w m c d) → length c ≡ free → DisjunctText (names_in book) text at d e → e ≤ length text
-            → Goes book lim env (setting m c d g) (whole m c d) cut' over' w₂
+            → Goes book lim env (setting m c d g) (whole m c d) o w₂
         unfolding setting
         goes m c d e g q t l =
-            let r = told m c d e g t l in
-            rest (setting m c d g) _ (r.held o) (r.skipped o) (omega (arith, q, head_length c d, t.count)) d.literals e (literals_at m c d e g t l) d.origins (sym t.count)
+            let r = told (Ok cut) w₁ first m c d e g t l in
+            rest (setting m c d g) _ r.0 r.1 (omega (arith, q, head_length c d, t.count)) d.literals e (literals_at m c d e g t l) d.origins (sym t.count)
 
-        pub child_made : IsChild book text at free b lim env w cut' over' w₂
-        child_made m c d e g q t l = subst (λ (k : Child). Made lim k cut' over' w₂) (sym (child_is m c d)) (go over' refl (goes m c d e g q t l))
+        pub child_made : IsChild book text at free b lim env w o w₂
+        child_made m c d e g q t l = subst (λ (k : Child). Made lim k o w₂) (sym (child_is m c d)) (go o (goes m c d e g q t l))
           where
-            go : (x : Bool) → over' ≡ x → Goes book lim env (setting m c d g) (whole m c d) cut' over' w₂ → Made lim (whole m c d) cut' over' w₂
-            go true y r = record { full = y ∙ true_is (whole m c d).over (r.full y); carries = λ f. absurd (subst T (sym y ∙ f) tt); skipped = r.skipped }
-            go false y r = let h = r.held y in record { full = y ∙ sym h.within; carries = λ _. h.told.carries; skipped = r.skipped }
+            go : (o : Result Bool TooLarge) → Goes book lim env (setting m c d g) (whole m c d) o w₂ → Made lim (whole m c d) o w₂
+            go (Ok cut') r = record { within = r.0.within; carries = r.0.told.carries; skipped = r.1 }
+            go (Err f) r = true_is (whole m c d).over r

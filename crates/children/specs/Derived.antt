@@ -1,5 +1,5 @@
 -- What is made of the disjuncts of a sequent that fired: the definition's children of the base.
-use Rattle.std.specs.Prelude.{◌≡◌, ℕ, ◌+◌, ◌≤◌, Bool, List, map, length, take, T}
+use Rattle.std.specs.Prelude.{◌≡◌, ℕ, ◌+◌, ◌≤◌, Bool, List, map, length, take, T, Result}
 use Rattle.base.specs.Lists.{All, any}
 use Rattle.rules.specs.Book.{Disjunct, completed_disjunct}
 use Rattle.rules.specs.Reading.{Bytes}
@@ -12,6 +12,7 @@ use Rattle.texts.specs.Reads.{Follow}
 use Rattle.texts.specs.Names.{names_in}
 use Rattle.texts.specs.Text.{DisjunctText}
 use Rattle.enter.specs.Keep.{Carries}
+use Rattle.telling.specs.declared.TooLarge.{TooLarge}
 use Rattle.child.specs.Whole.{Made}
 
 -- The form carries a neat model, each element itself, and known elements of it are chosen.
@@ -28,9 +29,9 @@ pub record DisjunctHere (book : Bytes) (at room v : ℕ) (d : Disjunct) (e : ℕ
   pub stands : DisjunctText (names_in book) book at d e
   pub fits : e ≤ length book
 
-abbrev pub IsDerived : Bytes → ℕ → ℕ → Bound → Limits → List ℕ → List ℕ → Bool → Bool → List ℕ → Type 0
-IsDerived book at v b lim env base cut over w' = (m : Model) → Parent book lim base m (take v env) → (d : Disjunct) (e : ℕ) → DisjunctHere book at (length env) v d e
-    → Made lim (child lim b m (take v env) (completed_disjunct v d)) cut over w'
+abbrev pub IsDerived : Bytes → ℕ → ℕ → Bound → Limits → List ℕ → List ℕ → Result Bool TooLarge → List ℕ → Type 0
+IsDerived book at v b lim env base r w' = (m : Model) → Parent book lim base m (take v env) → (d : Disjunct) (e : ℕ) → DisjunctHere book at (length env) v d e
+    → Made lim (child lim b m (take v env) (completed_disjunct v d)) r w'
 
 -- So many of them, one behind the other.
 pub record DisjunctsHere (book : Bytes) (at n room v : ℕ) (ds : List Disjunct) (e : ℕ) : Type 0 where

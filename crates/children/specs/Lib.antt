@@ -1,4 +1,3 @@
 -- The children of a sequent that fired.
-pub mod Copy
 pub mod Derived
 pub mod Ways

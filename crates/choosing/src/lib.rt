@@ -10,16 +10,13 @@ pub fn advance(idx: &mut [usize], v: usize, nd: usize) -> bool
     requires { (v ≤ length idx.old) × Below nd (take v idx.old) }
     ensures { (after nd (take v idx.old) ≡ perhaps result (take v idx.new)) × Below nd (take v idx.new) }
 {
-    let mut left = v;
-    while left > 0 {
-        let i = v - left;
+    for i in 0..v {
         let x = idx[i] + 1;
         if x < nd {
             idx[i] = x;
             return true;
         }
         idx[i] = 0;
-        left -= 1;
     }
     false
 }
@@ -29,10 +26,7 @@ pub fn choose(dom: &[u64], nd: usize, idx: &[usize], v: usize, env: &mut [u64])
     requires { (nd ≤ length dom.now) × ((v ≤ length idx.now) × (Below nd (take v idx.now) × (v ≤ length env.old))) }
     ensures { take v env.new ≡ chosen (take nd dom.now) (take v idx.now) }
 {
-    let mut i = 0;
-    while i < v {
-        let j = idx[i];
-        env[i] = dom[j];
-        i += 1;
+    for i in 0..v {
+        env[i] = dom[idx[i]];
     }
 }

@@ -1,10 +1,10 @@
 // counts: what the head of a book names, read at its place: five counts, the arities, the sequent count.
 // Total: the answers are those of `names_in`, which are the names of the book if it is accepted (texts, `accepted`).
-#![tactic(auto)]
+#![tactic(auto, using(texts::specs::Names::nums_at, texts::specs::Names::nums_past, texts::specs::Names::nums_length), unfolding(texts::specs::Names::names_in, texts::specs::Names::relations_at, texts::specs::Names::witnesses_at, texts::specs::Names::count_at, texts::specs::Names::sequents_at))]
 
 ghost use Rattle.std.specs.Prelude.{◌≡◌, ◌<◌, length, get_or};
 ghost use Rattle.rules.specs.Reading.{num, witnesses, witness_arity};
-ghost use Rattle.texts.specs.Names.{names_in, relations_at, witnesses_at, count_at, sequents_at};
+ghost use Rattle.texts.specs.Names.{nums, names_in, relations_at, witnesses_at, count_at, sequents_at};
 
 use words::num16;
 
@@ -57,35 +57,34 @@ fn count_at(book: &[u8]) -> u64
     witnesses_at(book) + 2 * num16(book, 13)
 }
 
-// The arity of a symbol; 0 if it is not declared.
-pub fn function_arity(book: &[u8], f: u64) -> u64
-    ensures { (result ≡ get_or (names_in book.now).functions f 0) × (result < 65536) }
+// The arity of a symbol, of which there are `count` from `start` on; 0 if it is not declared.
+fn arity_at(book: &[u8], start: u64, count: u64, symbol: u64) -> u64
+    requires { (start < 400000) × (count < 65536) }
+    ensures { (result ≡ get_or (nums book.now start count) symbol 0) × (result < 65536) }
 {
-    if f < num16(book, 7) {
-        num16(book, (15 + 2 * f) as usize)
+    if symbol < count {
+        num16(book, (start + 2 * symbol) as usize)
     } else {
         0
     }
+}
+
+pub fn function_arity(book: &[u8], f: u64) -> u64
+    ensures { (result ≡ get_or (names_in book.now).functions f 0) × (result < 65536) }
+{
+    arity_at(book, 15, num16(book, 7), f)
 }
 
 pub fn relation_arity(book: &[u8], r: u64) -> u64
     ensures { (result ≡ get_or (names_in book.now).relations r 0) × (result < 65536) }
 {
-    if r < num16(book, 9) {
-        num16(book, (relations_at(book) + 2 * r) as usize)
-    } else {
-        0
-    }
+    arity_at(book, relations_at(book), num16(book, 9), r)
 }
 
 pub fn witness_arity(book: &[u8], w: u64) -> u64
     ensures { (result ≡ get_or (names_in book.now).function_witnesses w 0) × (result < 65536) }
 {
-    if w < num16(book, 13) {
-        num16(book, (witnesses_at(book) + 2 * w) as usize)
-    } else {
-        0
-    }
+    arity_at(book, witnesses_at(book), num16(book, 13), w)
 }
 
 pub fn sequent_count(book: &[u8]) -> u64

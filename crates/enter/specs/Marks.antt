@@ -1,5 +1,6 @@
 -- What recording a key says of the model that the form carries, and recording what a variable stands for, as it is now.
-use Rattle.std.specs.Prelude.{◌≡◌, ℕ, zero, suc, ◌+◌, ◌*◌, ◌%◌, ◌≤◌, ◌<◌, length}
+use Rattle.std.specs.Prelude.{◌≡◌, ℕ, zero, suc, ◌+◌, ◌*◌, ◌%◌, ◌≤◌, ◌<◌, length, Some, None}
+use Rattle.std.specs.Prelude as std
 use Rattle.std.proofs.Common.{sym, ◌∙◌, arith}
 use Rattle.std.proofs.Math.Path.{ap, ap₂, subst}
 use mathlib.Core.List.{List, map}
@@ -24,6 +25,7 @@ use Rattle.soundness.specs.Book.{SmallNames}
 use Rattle.packing.specs.Digits.{number_from}
 use Rattle.packing.specs.Pack.{pack_key, Fits, arity_of}
 use Rattle.packing.specs.Replace.{Eight, eight_of}
+use Rattle.look.specs.Answers.{Octets}
 use Rattle.look.specs.Shown.{pack_meaning, declared_fits, neat_keys_fit, witness_above}
 use Rattle.sheets.specs.Form.{view_of}
 use Rattle.enter.specs.Grow.{Sturdy}
@@ -60,25 +62,25 @@ fits_low k f =
 
 -- ---- recording a key
 
-pub record Recorded (lim : Limits) (q : ℕ) (w : List ℕ) (r : ℕ) (w' : List ℕ) : Type 0 where
+pub record Recorded (lim : Limits) (q : ℕ) (w : List ℕ) (r : std.Option ℕ) (w' : List ℕ) : Type 0 where
   pub sturdy : Sturdy lim w'
-  pub bound : r ≤ 256
+  pub octets : Octets r
   pub is : (d : Names) (m : Model) (now : History) (k : Key) → Holding lim d w m now → Proper d m k → q ≡ pack_key k → PutIs lim now (put m k) r w'
 
 module _ (lim : Limits) (q : ℕ) (w : List ℕ) where
   -- No key has such a number.
-  pub recorded_large : Sturdy lim w → 72057594037927936 ≤ q → Recorded lim q w 256 w
+  pub recorded_large : Sturdy lim w → 72057594037927936 ≤ q → Recorded lim q w None w
   recorded_large s l = record {
     sturdy = s;
-    bound = omega arith;
+    octets = tt;
     is = λ d m now k h p e. (let f = fits_low k (proper_fits h k p) in absurd (omega arith));
   }
 
-  pub recorded_put : (r : ℕ) (w' : List ℕ) → PutKey lim q (depth_of (view_of lim w).depths (q * 256)) w r w' → Recorded lim q w r w'
+  pub recorded_put : (r : std.Option ℕ) (w' : List ℕ) → PutKey lim q (depth_of (view_of lim w).depths (q * 256)) w r w' → Recorded lim q w r w'
   recorded_put r w' g = record {
     sturdy = g.sturdy;
-    bound = g.bound;
-    is = λ d m now k h p e. put_is lim d w m now h.carries (neat_keys_fit d h.small lim m h.neat h.few) k (proper_fits h k p) q e _ r w' (deep d m now k h p e) g;
+    octets = g.octets;
+    is = λ d m now k h p e. put_is lim d w m now h.carries (neat_keys_fit d h.small lim m h.neat h.few) k (proper_fits h k p) q e _ w' (deep d m now k h p e) r g;
   }
     where
       low : (d : Names) (m : Model) (now : History) (k : Key) → Holding lim d w m now → Proper d m k → All (λ e. get_or m.depths e 0 < 65536) k.args
@@ -99,9 +101,9 @@ unfoldable pub Stands : Limits → Names → Model → History → Meaning → T
 Stands lim d m now (elem e) = Still lim m now e
 Stands lim d m now (witness k) = All (Still lim m now) k.args × T (declared_as d k.kind k.symbol (length k.args))
 
-pub record Meant (lim : Limits) (x : ℕ) (w : List ℕ) (r : ℕ) (w' : List ℕ) : Type 0 where
+pub record Meant (lim : Limits) (x : ℕ) (w : List ℕ) (r : std.Option ℕ) (w' : List ℕ) : Type 0 where
   pub sturdy : Sturdy lim w'
-  pub bound : r ≤ 256
+  pub octets : Octets r
   pub is : (d : Names) (m : Model) (now : History) (μ : Meaning) → Holding lim d w m now → Stands lim d m now μ → x ≡ pack_meaning μ → PutIs lim now (put_meaning m now μ) r w'
 
 pub declared_kind : (d : Names) (kind symbol n : ℕ) → T (declared_as d kind symbol n) → 0 < kind
@@ -124,28 +126,28 @@ module _ (lim : Limits) (x : ℕ) (w : List ℕ) (s : Sturdy lim w) where
       → Fits (arity_of d) k
   witness_fits d m now k h a t = declared_fits d h.small k t (all_all (Still lim m now) Octet (λ e p. let f = s.few in let l = p.0 in omega arith) k.args a)
 
-  pub meant_element : x < 256 → (r : ℕ) → r ≡ get_or (view_of lim w).history x 0 % 256 → Meant lim x w r w
+  pub meant_element : x < 256 → (r : ℕ) → r ≡ get_or (view_of lim w).history x 0 % 256 → Meant lim x w (Some r) w
   unfolding Stands pack_meaning put_meaning
-  meant_element l r e = record { sturdy = s; bound = omega arith; is = go }
+  meant_element l r e = record { sturdy = s; octets = omega arith; is = go }
     where
-      go : (d : Names) (m : Model) (now : History) (μ : Meaning) → Holding lim d w m now → Stands lim d m now μ → x ≡ pack_meaning μ → PutIs lim now (put_meaning m now μ) r w
+      go : (d : Names) (m : Model) (now : History) (μ : Meaning) → Holding lim d w m now → Stands lim d m now μ → x ≡ pack_meaning μ → PutIs lim now (put_meaning m now μ) (Some r) w
       go d m now (elem y) h p q =
           let o = yielded_octet h (now y) p.1 in
           let i : r ≡ now y = e ∙ ap (λ z. get_or (view_of lim w).history z 0 % 256) q ∙ (omega (arith, history_at_lem h.carries y p.0)) in
-          record { element = λ _. i; carries = λ _. h.carries; full = λ g. absurd (omega arith) }
+          (i, h.carries)
       go d m now (witness k) h p q = absurd (omega (arith, witness_above k (declared_kind d k.kind k.symbol (length k.args) p.1)))
 
-  pub meant_large : 72057594037927936 ≤ x → Meant lim x w 256 w
+  pub meant_large : 72057594037927936 ≤ x → Meant lim x w None w
   unfolding Stands pack_meaning
-  meant_large l = record { sturdy = s; bound = omega arith; is = go }
+  meant_large l = record { sturdy = s; octets = tt; is = go }
     where
-      go : (d : Names) (m : Model) (now : History) (μ : Meaning) → Holding lim d w m now → Stands lim d m now μ → x ≡ pack_meaning μ → PutIs lim now (put_meaning m now μ) 256 w
+      go : (d : Names) (m : Model) (now : History) (μ : Meaning) → Holding lim d w m now → Stands lim d m now μ → x ≡ pack_meaning μ → PutIs lim now (put_meaning m now μ) None w
       go d m now (elem y) h p q = absurd (let f = s.few in omega (arith, p.0))
       go d m now (witness k) h p q = absurd (omega (arith, fits_low k (witness_fits d m now k h p.0 p.1)))
 
-  pub meant_witness : 256 ≤ x → (q r : ℕ) (w' : List ℕ) → q ≡ resolved (view_of lim w).history (x * 256) → Recorded lim q w r w' → Meant lim x w r w'
+  pub meant_witness : 256 ≤ x → (q : ℕ) (r : std.Option ℕ) (w' : List ℕ) → q ≡ resolved (view_of lim w).history (x * 256) → Recorded lim q w r w' → Meant lim x w r w'
   unfolding Stands pack_meaning put_meaning
-  meant_witness l q r w' e g = record { sturdy = g.sturdy; bound = g.bound; is = go }
+  meant_witness l q r w' e g = record { sturdy = g.sturdy; octets = g.octets; is = go }
     where
       go : (d : Names) (m : Model) (now : History) (μ : Meaning) → Holding lim d w m now → Stands lim d m now μ → x ≡ pack_meaning μ → PutIs lim now (put_meaning m now μ) r w'
       go d m now (elem y) h p i = absurd (let f = s.few in omega (arith, p.0))

@@ -1,5 +1,6 @@
 -- What entering a term, or an argument list, says: for whatever stands at the place, the answer is the definition's.
-use Rattle.std.specs.Prelude.{◌≡◌, ℕ, ◌+◌, ◌-◌, ◌≤◌, ◌<◌, List, map, length, get_or}
+use Rattle.std.specs.Prelude.{◌≡◌, ℕ, ◌+◌, ◌-◌, ◌≤◌, ◌<◌, List, map, length, get_or, Some, None}
+use Rattle.std.specs.Prelude as std
 use Rattle.base.specs.Lists.{All}
 use Rattle.rules.specs.Book.{Term, app, Terms}
 use Rattle.rules.specs.Reading.{Bytes}
@@ -14,10 +15,8 @@ use Rattle.texts.specs.Names.{names_in}
 use Rattle.texts.specs.Text.{count, TermText, TermsText}
 use Rattle.look.specs.Shown.{pack_meaning}
 use Rattle.look.specs.Digits.{pack_args}
-use Rattle.enter.specs.declared.Entered.{Entered}
-use Rattle.enter.specs.declared.Entered.TheVariants.{Full, At}
-use Rattle.enter.specs.declared.Head.{Head}
-use Rattle.enter.specs.declared.Head.TheVariants.{Short, Leaf, Apply}
+use Rattle.look.specs.declared.Head.{Head}
+use Rattle.look.specs.declared.Head.TheVariants.{Leaf, Apply}
 use Rattle.enter.specs.Keep.{Carries, carries_small, PutIs, Crowded}
 use Rattle.enter.specs.Marks.{Holding}
 
@@ -61,46 +60,27 @@ pub record TermsAt (book text : Bytes) (at k n : ℕ) (ts : Terms) (e : ℕ) : T
 
 -- ---- answers
 
--- A value, which is below 256, with a place.
-abbrev pub Answers : ℕ → ℕ → Entered → Type 0
-Answers v e Full = 256 ≤ v
-Answers v e (At x g) = (v < 256) × ((x ≡ v) × (g ≡ e))
-
--- Whatever the text: the next place is further on, and within it.
-abbrev pub EnterGood : ℕ → ℕ → Entered → Type 0
-EnterGood len at Full = Unit
-EnterGood len at (At v e) = (v < 256) × ((at < e) × (e ≤ len))
-
-abbrev pub EntersGood : ℕ → ℕ → Entered → Type 0
-EntersGood len at Full = Unit
-EntersGood len at (At p e) = (at ≤ e) × (e ≤ len)
-
-abbrev pub HeadGood : ℕ → ℕ → Head → Type 0
-HeadGood len at Short = Unit
-HeadGood len at (Leaf v) = at + 4 ≤ len
-HeadGood len at (Apply f n) = (at + 4 ≤ len) × ((f < 65536) × (n < 65536))
-
 -- The element of the definition, with the form that carries the model; or the model has no room for it.
-abbrev pub EnterIs : Limits → History → Model × ℕ → ℕ → Entered → List ℕ → Type 0
-EnterIs lim now p e Full w' = Crowded lim p.0
-EnterIs lim now p e (At v g) w' = (g ≡ e) × ((v ≡ p.1) × Carries lim w' p.0 now)
+abbrev pub EnterIs : Limits → History → Model × ℕ → ℕ → std.Option (ℕ × ℕ) → List ℕ → Type 0
+EnterIs lim now p e None w' = Crowded lim p.0
+EnterIs lim now p e (Some r) w' = (r.1 ≡ e) × ((r.0 ≡ p.1) × Carries lim w' p.0 now)
 
 -- The elements packed behind a number from a weight on.
-abbrev pub EntersIs : Limits → History → Model × List ℕ → ℕ → ℕ → ℕ → Entered → List ℕ → Type 0
-EntersIs lim now p acc wt e Full w' = Crowded lim p.0
-EntersIs lim now p acc wt e (At q g) w' = (g ≡ e) × ((q ≡ pack_args acc wt p.1) × Carries lim w' p.0 now)
+abbrev pub EntersIs : Limits → History → Model × List ℕ → ℕ → ℕ → ℕ → std.Option (ℕ × ℕ) → List ℕ → Type 0
+EntersIs lim now p acc wt e None w' = Crowded lim p.0
+EntersIs lim now p acc wt e (Some r) w' = (r.1 ≡ e) × ((r.0 ≡ pack_args acc wt p.1) × Carries lim w' p.0 now)
 
 -- ---- what they are, in any setting, for any model that is told and any term that stands there
 
-abbrev pub IsVariable : Limits → List ℕ → ℕ → List ℕ → ℕ → List ℕ → Type 0
+abbrev pub IsVariable : Limits → List ℕ → ℕ → List ℕ → std.Option ℕ → List ℕ → Type 0
 IsVariable lim env i w r w' = (book : Bytes) (z : Setting book lim env) (m : Model) (now : History) → Told book lim env z w m now → i < length z.ms
     → PutIs lim now (put_meaning m now (get_or z.ms i nobody)) r w'
 
-abbrev pub IsEnter : Bytes → Bytes → ℕ → Limits → List ℕ → List ℕ → Entered → List ℕ → Type 0
+abbrev pub IsEnter : Bytes → Bytes → ℕ → Limits → List ℕ → List ℕ → std.Option (ℕ × ℕ) → List ℕ → Type 0
 IsEnter book text at lim env w r w' = (z : Setting book lim env) (m : Model) (now : History) → Told book lim env z w m now
     → (t : Term) (e : ℕ) → TermAt book text at (length z.ms) t e → EnterIs lim now (enter t m now z.ms) e r w'
 
-abbrev pub IsEnters : Bytes → Bytes → ℕ → ℕ → ℕ → ℕ → Limits → List ℕ → List ℕ → Entered → List ℕ → Type 0
+abbrev pub IsEnters : Bytes → Bytes → ℕ → ℕ → ℕ → ℕ → Limits → List ℕ → List ℕ → std.Option (ℕ × ℕ) → List ℕ → Type 0
 IsEnters book text at k acc wt lim env w r w' = (z : Setting book lim env) (m : Model) (now : History) → Told book lim env z w m now
     → (ts : Terms) (e : ℕ) → TermsAt book text at k (length z.ms) ts e → EntersIs lim now (enters ts m now z.ms) acc wt e r w'
 
@@ -111,8 +91,8 @@ pub record Applies (book text : Bytes) (at n : ℕ) (t : Term) (e f k : ℕ) : T
   pub wf : WfTerm (app f terms) (names_in book) n
   pub there : TermsAt book text (at + 4) k n terms e
 
-abbrev pub HeadIs : Bytes → Bytes → ℕ → Limits → List ℕ → List ℕ → Head → List ℕ → Type 0
-HeadIs book text at lim env w Short w' = length text - at < 4
-HeadIs book text at lim env w (Leaf v) w' = (z : Setting book lim env) (m : Model) (now : History) → Told book lim env z w m now
+abbrev pub HeadIs : Bytes → Bytes → ℕ → Limits → List ℕ → List ℕ → std.Option (Head (std.Option ℕ)) → List ℕ → Type 0
+HeadIs book text at lim env w None w' = length text - at < 4
+HeadIs book text at lim env w (Some (Leaf v)) w' = (z : Setting book lim env) (m : Model) (now : History) → Told book lim env z w m now
     → (t : Term) (e : ℕ) → TermAt book text at (length z.ms) t e → PutIs lim now (enter t m now z.ms) v w' × (e ≡ at + 4)
-HeadIs book text at lim env w (Apply f k) w' = (w' ≡ w) × ((n : ℕ) (t : Term) (e : ℕ) → TermAt book text at n t e → Applies book text at n t e f k)
+HeadIs book text at lim env w (Some (Apply f k)) w' = (w' ≡ w) × ((n : ℕ) (t : Term) (e : ℕ) → TermAt book text at n t e → Applies book text at n t e f k)

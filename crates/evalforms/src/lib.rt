@@ -1,44 +1,29 @@
-// evalforms: what fires on a sheet that stands in its working form. The domain is listed, and the evaluator is lent the regions of
-// keys and facts as parts of the form: nothing is copied.
+// evalforms: what fires on a sheet that stands in its working form. The domain is listed, and the evaluator reads the keys and the
+// facts where they stand in the form: nothing is copied.
 #![tactic(auto)]
 
 ghost use Rattle.std.specs.Prelude.{◌≤◌, length};
-ghost use Rattle.sheets.specs.Form.{limits_of};
+ghost use Rattle.limits.specs.Limits.{limits_of};
+ghost use Rattle.settings.specs.Codes.{strategy_is};
 ghost use Rattle.evalforms.specs.Basis.{Basis, Evaluated};
 
-use domains::list_domain;
-use evaluate::Fired;
+use evaluate::{Fired, evaluate};
+use limits::Limits;
+use settings::Strategy;
+use showing::tables_of;
 
 // What fires on the form, over the book's sequents in the order of the strategy; the choice is left in the environment.
 pub fn evaluate_form(
     book: &[u8],
-    strategy: u64,
+    strategy: Strategy,
     base: &[u64],
-    le: usize,
-    lk: usize,
-    lf: usize,
+    limits: Limits,
     env: &mut [u64],
     dom: &mut [u64],
-) -> Fired
-    requires { Basis book.now (limits_of le lk lf) base.now × ((8 ≤ length env.old) × (lk ≤ length dom.old)) }
-    ensures { Evaluated book.now strategy (limits_of le lk lf) base.now result env.new }
+) -> Option<Fired>
+    requires { Basis book.now (limits_of limits) base.now × ((8 ≤ length env.old) × (limits.keys ≤ length dom.old)) }
+    ensures { Evaluated book.now (strategy_is strategy) (limits_of limits) base.now result env.new }
 {
-    let nk = base[3] as usize;
-    let nf = base[4] as usize;
-    let ke = 5 + lk;
-    let fa = 6 + lk + lk;
-    let fe = fa + lf;
-    let nd = list_domain(&base[5..ke], nk, dom);
-    evaluate::evaluate(
-        book,
-        strategy,
-        base[1],
-        env,
-        &base[5..ke],
-        nk,
-        &base[fa..fe],
-        nf,
-        dom,
-        nd,
-    )
+    let t = tables_of(base, limits, dom);
+    evaluate(book, strategy, base[1], env, &t)
 }

@@ -1,13 +1,13 @@
 -- What the evaluator answers: nothing, or a sequent's number and where its text stands; the choice is left in the environment.
-use Rattle.std.specs.Prelude.{◌≡◌, ℕ, ◌+◌, ◌≤◌, List, map, length, take}
+use Rattle.std.specs.Prelude.{◌≡◌, ℕ, ◌+◌, ◌≤◌, List, map, length, take, Some, None}
+use Rattle.std.specs.Prelude as std
 use Rattle.std.proofs.Common.{sym, ap, subst, arith}
 use Rattle.std.proofs.Math.Option.{Option, none, some}
 use Rattle.base.specs.Lists.{All}
 use Rattle.rules.specs.Book.{Sequent, Book, completed, rules}
 use Rattle.rules.specs.Reading.{Bytes, got, read_book}
 use Rattle.rules.specs.Sheet.{Model}
-use Rattle.rules.specs.Fire.{numbered, Firing, firing, visits}
-use Rattle.rules.specs.Pool.{strategy_of}
+use Rattle.rules.specs.Fire.{numbered, Firing, firing, Strategy, visits}
 use Rattle.texts.specs.Reads.{Follow}
 use Rattle.texts.specs.Names.{names_in}
 use Rattle.texts.specs.Text.{SequentText}
@@ -15,7 +15,6 @@ use Rattle.texts.specs.Parts.{part, part_length}
 use Rattle.skips.specs.Rest.{Skips}
 use Rattle.firing.specs.Answers.{Sees, Rule}
 use Rattle.evaluate.specs.declared.Fired.{Fired}
-use Rattle.evaluate.specs.declared.Fired.TheVariants.{Nothing, At}
 
 -- A part of the book from a place on: it is a sequent's whole text, where one stands there.
 pub record Handed (book : Bytes) (at : ℕ) (q : Bytes) : Type 0 where
@@ -36,9 +35,9 @@ pub record FiresAt (book : Bytes) (o : Option Firing) (env : List ℕ) (i a e : 
   pub fits : e ≤ length book
   pub is : o ≡ some (record { index = i; sequent = completed sequent; choice = take sequent.free env })
 
-abbrev pub Answers : Bytes → Option Firing → List ℕ → Fired → Type 0
-Answers book o env Nothing = o ≡ none
-Answers book o env (At i a e) = FiresAt book o env i a e
+abbrev pub Answers : Bytes → Option Firing → List ℕ → std.Option Fired → Type 0
+Answers book o env None = o ≡ none
+Answers book o env (Some f) = FiresAt book o env f.number f.at f.end
 
 -- So many sequents from a place on, the first of which has number i.
 pub record SequentsAt (book : Bytes) (at n : ℕ) (keys facts dom : List ℕ) (m : Model) (qs : List Sequent) (e : ℕ) : Type 0 where
@@ -48,11 +47,11 @@ pub record SequentsAt (book : Bytes) (at n : ℕ) (keys facts dom : List ℕ) (m
   pub counted : length qs ≡ n
   pub fits : e ≤ length book
 
-abbrev pub FirstOf : Bytes → ℕ → ℕ → ℕ → List ℕ → List ℕ → List ℕ → Fired → List ℕ → Type 0
+abbrev pub FirstOf : Bytes → ℕ → ℕ → ℕ → List ℕ → List ℕ → List ℕ → std.Option Fired → List ℕ → Type 0
 FirstOf book at i n keys facts dom r env =
     (m : Model) (qs : List Sequent) (e : ℕ) → SequentsAt book at n keys facts dom m qs e → Answers book (firing m (numbered i (map completed qs))) env r
 
-abbrev pub Evaluates : Bytes → ℕ → ℕ → List ℕ → List ℕ → List ℕ → Fired → List ℕ → Type 0
+abbrev pub Evaluates : Bytes → Strategy → ℕ → List ℕ → List ℕ → List ℕ → std.Option Fired → List ℕ → Type 0
 Evaluates book strategy place keys facts dom r env =
     (m : Model) (b : Book) (e : ℕ) → read_book book ≡ got b e → Sees (names_in book) m keys facts dom
-    → Answers book (firing m (visits (strategy_of strategy) place (rules b))) env r
+    → Answers book (firing m (visits strategy place (rules b))) env r

@@ -1,6 +1,8 @@
 -- Sequents tried one after another, and a strategy's order as parts of the book's order.
 use Rattle.std.specs.Prelude.{◌≡◌, refl, true, false, length, take, drop}
 use Rattle.std.proofs.Common.{sym, ◌∙◌, length-take, length-drop}
+use Rattle.std.specs.Prelude.{Some, None}
+use Rattle.std.specs.Prelude as std
 use Rattle.std.proofs.Math.Path.{ap, ap₂, subst}
 use Prim.Native.Nat.{ℕ, zero, suc, ◌+◌, ◌-◌, ◌≤◌, ◌<◌}
 use native.Mathlib.Omega.{arith}
@@ -13,7 +15,6 @@ use Rattle.rules.specs.Book.{Sequent, Book, completed, rules}
 use Rattle.rules.specs.Reading.{Bytes, num, got, read_book}
 use Rattle.rules.specs.Sheet.{Model, domain}
 use Rattle.rules.specs.Fire.{choices, fires, numbered, Firing, firing, Strategy, linear, fair, visits}
-use Rattle.rules.specs.Pool.{strategy_of}
 use Rattle.texts.specs.Reads.{Follow}
 use Rattle.texts.specs.Names.{names_in, count_at, sequents_at}
 use Rattle.texts.specs.Heads.{accepted}
@@ -23,7 +24,6 @@ use Rattle.texts.specs.Parts.{part, sequents_grow, sequent_part}
 use Rattle.skips.specs.Rest.{Skips, SkipsMany}
 use Rattle.firing.specs.Answers.{Sees, Rule, SequentAt, FirstChoice}
 use Rattle.evaluate.specs.declared.Fired.{Fired}
-use Rattle.evaluate.specs.declared.Fired.TheVariants.{Nothing, At}
 use Rattle.evaluate.specs.Answers.{FiresAt, Answers, SequentsAt, FirstOf, Evaluates}
 use Rattle.evaluate.specs.Rules.{book_rules}
 
@@ -77,7 +77,7 @@ module _ (book : Bytes) (at i n : ℕ) (keys facts dom : List ℕ) where
       }
 
   module _ (j p : ℕ) (left : SequentsLeft book at i n keys facts dom j p) where
-    pub sequents_end : (env : List ℕ) → n ≤ j → FirstOf book at i n keys facts dom Nothing env
+    pub sequents_end : (env : List ℕ) → n ≤ j → FirstOf book at i n keys facts dom None env
     unfolding firing numbered
     sequents_end env h m qs e s = let r = left m qs e s in go r.rest r.ats r.is
       where
@@ -121,7 +121,7 @@ module _ (book : Bytes) (at i n : ℕ) (keys facts dom : List ℕ) where
                 is = w ∙ firing_not m (i + j) (completed q) (numbered (suc (i + j)) (map completed rs)) (f m q t.1.0) ∙ ap (λ k. firing m (numbered k (map completed rs))) y;
               }
 
-      pub sequents_found : (env : List ℕ) → FirstChoice book (part p g book) keys facts dom true env → FirstOf book at i n keys facts dom (At (i + j) p g) env
+      pub sequents_found : (env : List ℕ) → FirstChoice book (part p g book) keys facts dom true env → FirstOf book at i n keys facts dom (Some (record { number = i + j; at = p; end = g })) env
       unfolding numbered completed
       sequents_found env f m qs e s = let r = left m qs e s in go r.rest r.ats r.is
         where
@@ -164,7 +164,7 @@ module _ (book : Bytes) (keys facts dom : List ℕ) (m : Model) (b : Book) (e : 
       let g = sequents_got book b (accepted book b e h) in
       record { sees = sees; rules = book_rules book b e h; stand = g.0; counted = g.1; fits = omega arith }
 
-  pub linear_is : (r : Fired) (env : List ℕ) (place : ℕ) → FirstOf book (sequents_at book) 0 (num book (count_at book)) keys facts dom r env
+  pub linear_is : (r : std.Option Fired) (env : List ℕ) (place : ℕ) → FirstOf book (sequents_at book) 0 (num book (count_at book)) keys facts dom r env
       → Answers book (firing m (visits linear place (rules b))) env r
   unfolding visits rules
   linear_is r env place f = f m b.sequents (length book) whole
@@ -211,10 +211,10 @@ module _ (book : Bytes) (keys facts dom : List ℕ) (m : Model) (b : Book) (e : 
         ap₂ (λ (u v : List Visit). firing m (u ++ v)) (numbered_drop 0 place b.sequents ∙ ap (λ k. numbered k (map completed (drop place b.sequents))) z) (numbered_take 0 place b.sequents)
         ∙ firing_append m (numbered place (map completed (drop place b.sequents))) (numbered 0 (map completed (take place b.sequents)))
 
-    pub fair_later : (i a g : ℕ) (env : List ℕ) → FirstOf book at place (num book (count_at book) - place) keys facts dom (At i a g) env
-        → Answers book (firing m (visits fair place (rules b))) env (At i a g)
+    pub fair_later : (r : Fired) (env : List ℕ) → FirstOf book at place (num book (count_at book) - place) keys facts dom (Some r) env
+        → Answers book (firing m (visits fair place (rules b))) env (Some r)
     unfolding case_o
-    fair_later i a g env f =
+    fair_later r env f =
         let x = f m (drop place b.sequents) (length book) later in
         record {
           sequent = x.sequent;
@@ -224,7 +224,7 @@ module _ (book : Bytes) (keys facts dom : List ℕ) (m : Model) (b : Book) (e : 
           is = parts ∙ ap (λ (o : Option Firing). case_o o (λ _. firing m (numbered 0 (map completed (take place b.sequents)))) some) x.is;
         }
 
-    pub fair_earlier : (r : Fired) (env₀ env : List ℕ) → FirstOf book at place (num book (count_at book) - place) keys facts dom Nothing env₀
+    pub fair_earlier : (r : std.Option Fired) (env₀ env : List ℕ) → FirstOf book at place (num book (count_at book) - place) keys facts dom None env₀
         → FirstOf book (sequents_at book) 0 place keys facts dom r env → Answers book (firing m (visits fair place (rules b))) env r
     unfolding case_o
     fair_earlier r env₀ env f g =
@@ -234,37 +234,20 @@ module _ (book : Bytes) (keys facts dom : List ℕ) (m : Model) (b : Book) (e : 
         parts ∙ ap (λ (o : Option Firing). case_o o (λ _. firing m (numbered 0 (map completed (take place b.sequents)))) some) x in
         subst (λ o. Answers book o env r) (sym z) (g m (take place b.sequents) y.0 y.1)
 
--- ---- the strategies by their numbers
-
-pub is_linear : (s : ℕ) → s ≡ 0 → strategy_of s ≡ linear
-unfolding strategy_of
-is_linear zero e = refl
-is_linear (suc s) e = absurd (omega arith)
-
-pub is_fair : (s : ℕ) → (s ≡ 0 → ⊥) → strategy_of s ≡ fair
-unfolding strategy_of
-is_fair zero e = absurd (e refl)
-is_fair (suc s) e = refl
-
 -- ---- one law for each way out of the evaluator
 
-module _ (book : Bytes) (strategy place : ℕ) (keys facts dom env : List ℕ) where
-  pub evaluates_never : (r : Fired) (start : ℕ) → start ≡ sequents_at book → length book < start → Evaluates book strategy place keys facts dom r env
-  evaluates_never r start q l m b e h sees = let a = (accepted book b e h).starts in absurd (omega arith)
+module _ (book : Bytes) (place : ℕ) (keys facts dom env : List ℕ) where
+  pub evaluates_never : (strategy : Strategy) (r : std.Option Fired) (start : ℕ) → start ≡ sequents_at book → length book < start → Evaluates book strategy place keys facts dom r env
+  evaluates_never strategy r start q l m b e h sees = let a = (accepted book b e h).starts in absurd (omega arith)
 
-  -- The strategy by its number.
-  by : (st : Strategy) → strategy_of strategy ≡ st → (r : Fired)
-      → ((m : Model) (b : Book) (e : ℕ) → read_book book ≡ got b e → Sees (names_in book) m keys facts dom → Answers book (firing m (visits st place (rules b))) env r)
-      → Evaluates book strategy place keys facts dom r env
-  by st q r f m b e h sees = subst (λ t. Answers book (firing m (visits t place (rules b))) env r) (sym q) (f m b e h sees)
+  pub evaluates_linear : (r : std.Option Fired) → FirstOf book (sequents_at book) 0 (num book (count_at book)) keys facts dom r env → Evaluates book linear place keys facts dom r env
+  evaluates_linear r f m b e h sees = linear_is book keys facts dom m b e h sees r env place f
 
-  pub evaluates_linear : strategy ≡ 0 → (r : Fired) → FirstOf book (sequents_at book) 0 (num book (count_at book)) keys facts dom r env → Evaluates book strategy place keys facts dom r env
-  evaluates_linear z r f = by linear (is_linear strategy z) r (λ m b e h sees. linear_is book keys facts dom m b e h sees r env place f)
+  module _ (low : place ≤ num book (count_at book)) (at : ℕ) (skip : SkipsMany (SequentText (names_in book) book) (length book) (sequents_at book) place at) where
+    pub evaluates_later : (r : std.Option Fired) → (r ≡ None → ⊥) → FirstOf book at place (num book (count_at book) - place) keys facts dom r env → Evaluates book fair place keys facts dom r env
+    evaluates_later None n f = absurd (n refl)
+    evaluates_later (Some r) n f = λ m b e h sees. fair_later book keys facts dom m b e h sees place low at skip r env f
 
-  module _ (no : strategy ≡ 0 → ⊥) (low : place ≤ num book (count_at book)) (at : ℕ) (skip : SkipsMany (SequentText (names_in book) book) (length book) (sequents_at book) place at) where
-    pub evaluates_later : (i a g : ℕ) → FirstOf book at place (num book (count_at book) - place) keys facts dom (At i a g) env → Evaluates book strategy place keys facts dom (At i a g) env
-    evaluates_later i a g f = by fair (is_fair strategy no) (At i a g) (λ m b e h sees. fair_later book keys facts dom m b e h sees place low at skip i a g env f)
-
-    pub evaluates_earlier : (r : Fired) (env₀ : List ℕ) → FirstOf book at place (num book (count_at book) - place) keys facts dom Nothing env₀
-        → FirstOf book (sequents_at book) 0 place keys facts dom r env → Evaluates book strategy place keys facts dom r env
-    evaluates_earlier r env₀ f g = by fair (is_fair strategy no) r (λ m b e h sees. fair_earlier book keys facts dom m b e h sees place low at skip r env₀ env f g)
+    pub evaluates_earlier : (r : std.Option Fired) (env₀ : List ℕ) → FirstOf book at place (num book (count_at book) - place) keys facts dom None env₀
+        → FirstOf book (sequents_at book) 0 place keys facts dom r env → Evaluates book fair place keys facts dom r env
+    evaluates_earlier r env₀ f g m b e h sees = fair_earlier book keys facts dom m b e h sees place low at skip r env₀ env f g

@@ -1,6 +1,6 @@
 -- A lone sheet that passed the checks: its book was read, and it is sound for it (rules.Sound.sound_lone). Its working form is a basis for the
 -- evaluator, which answers for the sheet that the bytes say.
-use Rattle.std.specs.Prelude.{◌≡◌, ℕ, ◌≤◌, ◌<◌, max, Bool, true, length, get_or, T}
+use Rattle.std.specs.Prelude.{◌≡◌, ℕ, ◌≤◌, ◌<◌, max, Bool, true, Option, length, get_or, T}
 use Rattle.std.proofs.Math.Path.{sym, subst}
 use Rattle.std.proofs.Common.{◌∙◌, arith}
 use mathlib.Core.List.{List, [], append-nil}
@@ -13,8 +13,7 @@ use Rattle.rules.specs.Reading.{Bytes, num, got, read_book}
 use Rattle.rules.specs.Sheet.{Sheet, Limits, limits}
 use Rattle.rules.specs.Image.{sheet_bytes, sheet_in}
 use Rattle.rules.specs.Sound.{sound_model, sound_sheet, sound_lone}
-use Rattle.rules.specs.Fire.{firing, visits}
-use Rattle.rules.specs.Pool.{strategy_of}
+use Rattle.rules.specs.Fire.{firing, Strategy, visits}
 use Rattle.images.specs.Storable.{small_limits, StorableSheet}
 use Rattle.soundness.specs.Neat.{Neat}
 use Rattle.soundness.specs.Model.{sound_neat}
@@ -24,7 +23,7 @@ use Rattle.texts.specs.Names.{names_in, count_at}
 use Rattle.texts.specs.Heads.{Accepted, accepted, ReadAs}
 use Rattle.texts.specs.Texts.{sequents_got}
 use Rattle.sheetcheck.specs.Lone.{LoneSound}
-use Rattle.sheets.specs.Form.{limits_of, Holds}
+use Rattle.sheets.specs.Form.{Holds}
 use Rattle.sheets.specs.Load.{Loaded}
 use Rattle.slots.specs.Carry.{loaded_holds}
 use Rattle.evaluate.specs.declared.Fired.{Fired}
@@ -33,7 +32,7 @@ use Rattle.evalforms.specs.Basis.{Basis, Evaluated}
 
 -- The limits of this version, as code has them.
 abbrev pub L : Limits
-L = limits_of 64 128 128
+L = record { elements = 64; keys = 128; facts = 128 }
 
 pub record Lone (text s : Bytes) : Type 0 where
   pub read : ReadAs text
@@ -50,9 +49,9 @@ lone text s read bytes r e t = record {
 }
 
 -- What fires on the sheet that the bytes say, over the sequents of the book in the order of the strategy.
-abbrev pub FiresOn : Bytes → ℕ → Bytes → Fired → List ℕ → Type 0
+abbrev pub FiresOn : Bytes → Strategy → Bytes → Option Fired → List ℕ → Type 0
 FiresOn text strategy s r env = (b : Book) (e : ℕ) → read_book text ≡ got b e
-    → Answers text (firing (sheet_in L s).model (visits (strategy_of strategy) (sheet_in L s).place (rules b))) env r
+    → Answers text (firing (sheet_in L s).model (visits strategy (sheet_in L s).place (rules b))) env r
 
 module _ (text s : Bytes) (z : Lone text s) where
   abbrev b : Book
@@ -97,5 +96,5 @@ module _ (text s : Bytes) (z : Lone text s) where
     pub basis : Basis text L base
     basis = record { sheet = sheet; holds = holds; small = small; neat = neat; few = omega arith; low = low; short = book.small }
 
-    pub fires_on : (strategy : ℕ) (r : Fired) (env : List ℕ) → Evaluated text strategy L base r env → FiresOn text strategy s r env
+    pub fires_on : (strategy : Strategy) (r : Option Fired) (env : List ℕ) → Evaluated text strategy L base r env → FiresOn text strategy s r env
     fires_on strategy r env v c e q = v c e q sheet holds small neat (omega arith)

@@ -3,10 +3,10 @@
 -- that was filed is above one that is still to be.
 use Rattle.std.specs.Prelude.{◌≡◌, length, get_or, set}
 use Rattle.std.proofs.Math.Path.{refl, sym, ap, ap₂, subst}
-use Rattle.std.proofs.Common.{◌∙◌, subst₂, length-set, drop-set-lt, drop-cons, drop-drop, get_or-set_same}
+use Rattle.std.proofs.Common.{◌∙◌, subst₂, length-set, drop_of_length-le, drop-set-lt, drop-cons, drop-drop, get_or-set_same}
 use Prim.Native.Nat.{ℕ, suc, ◌+◌, ◌-◌, ◌*◌, ◌≤◌, ◌<◌}
 use native.Mathlib.Omega.{arith}
-use Rattle.std.proofs.Math.Option.{Option}
+use Rattle.std.proofs.Math.Option.{Option, none, some}
 use mathlib.Core.List.{List, [], ◌∷◌}
 use Rattle.std.proofs.Math.ListN.{take, drop}
 use Rattle.std.proofs.Math.Seq.{take-set-le, length-take-le}
@@ -14,11 +14,11 @@ use Rattle.base.specs.Branch.{case_o}
 use Rattle.base.specs.Lists.{All}
 use Rattle.base.specs.ListLaws.{all_all}
 use Rattle.packing.specs.Replace.{key_of, value_of}
-use Rattle.tables.specs.Table.{look_in, put_in, Rising, or_none, put_all, put_rises, look_some, look_missing, put_known}
+use Rattle.tables.specs.Table.{look_in, put_in, Rising, put_all, put_rises, put_known}
 use Rattle.tables.specs.Ways.{Put, put_front, put_behind}
 use Rattle.tables.specs.Last.{NoneAbove}
 use Rattle.renaming.specs.Order.{Sorted}
-use Rattle.filing.specs.Front.{front_cons, front_end, behind_part}
+use Rattle.filing.specs.Front.{front_cons, front_end, rest_cons, behind, behind_part}
 
 -- A table and the pairs, as numbers.
 abbrev pub Files : Type 0
@@ -74,22 +74,21 @@ drop_set t j w h =
     drop-cons (set t j w) j 0 (simp length-set h)
     ∙ ap₂ (λ (a : ℕ) (l : List ℕ). a ∷ l) (get_or-set_same t j w 0 h) (drop-set-lt (suc j) t j w (omega arith))
 
-module _ (x n top count v : ℕ) (t p : List ℕ) (put : Put x n t count p) (size : length p ≡ length t) (room : n < top) (fits : top ≤ length t)
-    (rise : Rising (take n t)) (e : v ≡ or_none (look_in (key_of x) (take n t))) where
+module _ (x n top count : ℕ) (t p : List ℕ) (put : Put x n t count p) (size : length p ≡ length t) (room : n < top) (fits : top ≤ length t)
+    (rise : Rising (take n t)) where
   rises : Rising (take count p)
   rises = subst Rising (sym (put_front put)) (put_rises x (take n t) rise)
 
-  behind : drop top p ≡ drop top t
-  behind =
+  pairs_behind : drop top p ≡ drop top t
+  pairs_behind =
       let s : count + (top - count) ≡ top = omega (arith, put.high) in
       ap (λ j. drop j p) (sym s) ∙ sym (drop-drop (top - count) count p) ∙ ap (drop (top - count)) (put_behind put) ∙ drop-drop (top - count) count t ∙ ap (λ j. drop j t) s
 
-  pub filed_new : 256 ≤ v → Filing x n top t count top p
+  pub filed_new : look_in (key_of x) (take n t) ≡ none → Filing x n top t count top p
   unfolding file_in case_o
-  filed_new h =
-      let o = look_missing (key_of x) (take n t) v e h in
+  filed_new o =
       record {
-        made = ap₂ (λ (a b : List ℕ). (a, b)) (put_front put) (behind ∙ ap (λ (q : Option ℕ). case_o q (λ _. drop top t) (λ v. (v * 256 + value_of x) ∷ drop top t)) (sym o));
+        made = ap₂ (λ (a b : List ℕ). (a, b)) (put_front put) (pairs_behind ∙ ap (λ (q : Option ℕ). case_o q (λ _. drop top t) (λ v. (v * 256 + value_of x) ∷ drop top t)) (sym o));
         kept = λ a b i j. behind_part count a b t p (put_behind put) i;
         rising = rises;
         high = put.high;
@@ -98,15 +97,14 @@ module _ (x n top count v : ℕ) (t p : List ℕ) (put : Put x n t count p) (siz
         sum = omega (arith, put.high);
       }
 
-  pub filed_pair : v < 256 → Filing x n top t count (top - 1) (set p (top - 1) (v * 256 + value_of x))
+  pub filed_pair : (v : ℕ) → look_in (key_of x) (take n t) ≡ some v → Filing x n top t count (top - 1) (set p (top - 1) (v * 256 + value_of x))
   unfolding file_in case_o
-  filed_pair h =
-      let o = look_some (key_of x) (take n t) v e h in
+  filed_pair v o =
       let w = v * 256 + value_of x in
       let k : count ≡ n = put.count ∙ put_known x (take n t) v o ∙ length-take-le n t (omega arith) in
       let s : suc (top - 1) ≡ top = omega arith in
       let front : take count (set p (top - 1) w) ≡ take count p = take-set-le count p (top - 1) w (omega arith) in
-      let pairs : drop (top - 1) (set p (top - 1) w) ≡ w ∷ drop top t = drop_set p (top - 1) w (omega arith) ∙ ap (λ (l : List ℕ). w ∷ l) (ap (λ j. drop j p) s ∙ behind) in
+      let pairs : drop (top - 1) (set p (top - 1) w) ≡ w ∷ drop top t = drop_set p (top - 1) w (omega arith) ∙ ap (λ (l : List ℕ). w ∷ l) (ap (λ j. drop j p) s ∙ pairs_behind) in
       record {
         made = ap₂ (λ (a b : List ℕ). (a, b)) (front ∙ put_front put) (pairs ∙ ap (λ (q : Option ℕ). case_o q (λ _. drop top t) (λ v. (v * 256 + value_of x) ∷ drop top t)) (sym o));
         kept = λ a b i j. ap (drop a) (take-set-le b p (top - 1) w j) ∙ behind_part count a b t p (put_behind put) i;
@@ -127,12 +125,12 @@ refile_next t t' n i m top m' up h l f q u =
     ap (λ (xs : List ℕ). refile_in xs (take m t, drop top t)) (front_cons t n i h l)
     ∙ ap₂ (λ (xs : List ℕ) (r : Files). refile_in xs r) (sym (f.kept (i + 1) n (omega (arith, f.high)) u)) (sym f.made)
 
-pub refact_next : (t t' : List ℕ) (n i m m' : ℕ) → n ≤ length t → i < n → Put (get_or t i 0) m t m' t' → m ≤ i
-    → refact_in (drop i (take n t)) (take m t) ≡ refact_in (drop (i + 1) (take n t')) (take m' t')
+pub refact_next : (t t' : List ℕ) (i m m' : ℕ) → i < length t → Put (get_or t i 0) m t m' t' → m ≤ i
+    → refact_in (drop i t) (take m t) ≡ refact_in (drop (i + 1) t') (take m' t')
 unfolding refact_in
-refact_next t t' n i m m' h l p q =
-    ap (λ (xs : List ℕ). refact_in xs (take m t)) (front_cons t n i h l)
-    ∙ ap₂ (λ (xs r : List ℕ). refact_in xs r) (sym (behind_part m' (i + 1) n t t' (put_behind p) (omega (arith, p.high)))) (sym (put_front p))
+refact_next t t' i m m' l p q =
+    ap (λ (xs : List ℕ). refact_in xs (take m t)) (rest_cons t i l)
+    ∙ ap₂ (λ (xs r : List ℕ). refact_in xs r) (sym (behind m' (i + 1) t t' (put_behind p) (omega (arith, p.high)))) (sym (put_front p))
 
 -- What filing the first n entries anew does, with pairs that wait from top on.
 pub record Refiled (n top : ℕ) (t : List ℕ) (count up : ℕ) (t' : List ℕ) : Type 0 where
@@ -142,10 +140,10 @@ pub record Refiled (n top : ℕ) (t : List ℕ) (count up : ℕ) (t' : List ℕ)
   pub below : up ≤ top
   pub sum : count + top ≤ n + up
 
-pub record Refacted (n : ℕ) (t : List ℕ) (count : ℕ) (t' : List ℕ) : Type 0 where
-  pub made : take count t' ≡ refact_in (take n t) []
+pub record Refacted (t : List ℕ) (count : ℕ) (t' : List ℕ) : Type 0 where
+  pub made : take count t' ≡ refact_in t []
   pub rising : Rising (take count t')
-  pub fewer : count ≤ n
+  pub fewer : count ≤ length t
 
 -- ---- in order
 
@@ -221,40 +219,33 @@ module _ (t₀ : List ℕ) (n top : ℕ) (room : n + n ≤ top) (fits : top ≤ 
         sum = omega (arith, r.sum, r.passed);
       }
 
-pub record Refacting (t₀ : List ℕ) (n : ℕ) (t : List ℕ) (count i : ℕ) : Type 0 where
-  pub passed : i ≤ n
+pub record Refacting (t₀ t : List ℕ) (count i : ℕ) : Type 0 where
   pub fewer : count ≤ i
-  pub size : length t ≡ length t₀
   pub rising : Rising (take count t)
-  pub ahead : Ahead (take count t) (drop i (take n t))
-  pub rest : refact_in (take n t₀) [] ≡ refact_in (drop i (take n t)) (take count t)
+  pub ahead : Ahead (take count t) (drop i t)
+  pub rest : refact_in t₀ [] ≡ refact_in (drop i t) (take count t)
 
-module _ (t₀ : List ℕ) (n : ℕ) (fits : n ≤ length t₀) where
-  pub refacting_start : Sorted (take n t₀) → Refacting t₀ n t₀ 0 0
+module _ (t₀ : List ℕ) where
+  pub refacting_start : Sorted t₀ → Refacting t₀ t₀ 0 0
   unfolding Rising
-  refacting_start s = record { passed = omega arith; fewer = omega arith; size = refl; rising = tt; ahead = ahead_start (take n t₀) s; rest = refl }
+  refacting_start s = record { fewer = omega arith; rising = tt; ahead = ahead_start t₀ s; rest = refl }
 
-  pub refacting_none : (t : List ℕ) (count i : ℕ) → Refacting t₀ n t count i → i < n → NoneAbove (key_of (get_or t i 0)) (take count t)
-  refacting_none t count i r l = ahead_none (take count t) (get_or t i 0) (drop (i + 1) (take n t)) _ (front_cons t n i (omega (arith, r.size)) l) r.ahead
+  pub refacting_none : (t : List ℕ) (count i : ℕ) → Refacting t₀ t count i → i < length t → NoneAbove (key_of (get_or t i 0)) (take count t)
+  refacting_none t count i r l = ahead_none (take count t) (get_or t i 0) (drop (i + 1) t) _ (rest_cons t i l) r.ahead
 
-  pub refacting_next : (t t' : List ℕ) (count i count' : ℕ) → Refacting t₀ n t count i → i < n → length t' ≡ length t
-      → Put (get_or t i 0) count t count' t' → Refacting t₀ n t' count' (i + 1)
-  refacting_next t t' count i count' r l z p = record {
-    passed = omega arith;
+  pub refacting_next : (t t' : List ℕ) (count i count' : ℕ) → Refacting t₀ t count i → i < length t → Put (get_or t i 0) count t count' t' → Refacting t₀ t' count' (i + 1)
+  refacting_next t t' count i count' r l p = record {
     fewer = omega (arith, p.high, r.fewer);
-    size = z ∙ r.size;
     rising = subst Rising (sym (put_front p)) (put_rises (get_or t i 0) (take count t) r.rising);
-    ahead = subst₂ Ahead (sym (put_front p)) (sym (behind_part count' (i + 1) n t t' (put_behind p) (omega (arith, p.high, r.fewer))))
-        (ahead_next (take count t) (get_or t i 0) (drop (i + 1) (take n t)) _ (front_cons t n i (omega (arith, r.size)) l) r.ahead);
-    rest = r.rest ∙ refact_next t t' n i count count' (omega (arith, r.size)) l p r.fewer;
+    ahead = subst₂ Ahead (sym (put_front p)) (sym (behind count' (i + 1) t t' (put_behind p) (omega (arith, p.high, r.fewer))))
+        (ahead_next (take count t) (get_or t i 0) (drop (i + 1) t) _ (rest_cons t i l) r.ahead);
+    rest = r.rest ∙ refact_next t t' i count count' l p r.fewer;
   }
 
-  pub refacting_end : (t : List ℕ) (count i : ℕ) → Refacting t₀ n t count i → n ≤ i → Refacted n t₀ count t
+  pub refacting_end : (t : List ℕ) (count i : ℕ) → Refacting t₀ t count i → length t ≡ length t₀ → i ≡ length t₀ → Refacted t₀ count t
   unfolding refact_in
-  refacting_end t count i r l =
-      let e : i ≡ n = omega (arith, r.passed) in
-      record {
-        made = sym (r.rest ∙ ap (λ (xs : List ℕ). refact_in xs (take count t)) (ap (λ j. drop j (take n t)) e ∙ front_end t n));
-        rising = r.rising;
-        fewer = omega (arith, r.fewer, r.passed);
-      }
+  refacting_end t count i r z e = record {
+    made = sym (r.rest ∙ ap (λ (xs : List ℕ). refact_in xs (take count t)) (drop_of_length-le t {i = i} (omega arith)));
+    rising = r.rising;
+    fewer = omega (arith, r.fewer);
+  }

@@ -3,12 +3,11 @@
 // and lone elements, are renamed as entries are.
 #![tactic(auto)]
 
-ghost use Rattle.std.specs.Prelude.{◌≡◌, ◌+◌, ◌≤◌, ◌<◌, length, take};
+ghost use Rattle.std.specs.Prelude.{◌≡◌, map, ◌+◌, ◌≤◌, ◌<◌, length, take};
 ghost use Rattle.packing.specs.Replace.{key_of, replaced};
 ghost use Rattle.tables.specs.Table.{Rising};
 ghost use Rattle.tables.specs.Last.{NoneAbove};
 ghost use Rattle.renaming.specs.Order.{Sorted};
-ghost use Rattle.filing.specs.Front.{map_front};
 ghost use Rattle.filing.specs.File.{Filing, Refiled, Refacted};
 
 use tables::{look_last, put_last};
@@ -20,36 +19,29 @@ pub struct Ends {
     pub top: usize,
 }
 
-// Element l becomes s in the first n entries.
-pub fn rename_all(t: &mut [u64], n: usize, s: u64, l: u64)
-    requires { (n ≤ length t.old) × (s < 256) }
-    ensures { t.new ≡ map_front (replaced s l) n t.old }
+// Element l becomes s in every entry.
+pub fn rename_all(t: &mut [u64], s: u64, l: u64)
+    requires { s < 256 }
+    ensures { t.new ≡ map (replaced s l) t.old }
 {
-    let mut i = 0;
-    while i < n {
-        t[i] = packing::replace(t[i], s, l);
-        i += 1;
+    for x in t.iter_mut() {
+        *x = packing::replace(*x, s, l);
     }
 }
 
-// The entry x is filed behind the first n, of which none has a key above its own.
-fn file(t: &mut [u64], n: usize, top: usize, x: u64) -> Ends
-    requires { (n < top) × ((top ≤ length t.old) × (Rising (take n t.old) × NoneAbove (key_of x) (take n t.old))) }
-    ensures { Filing x n top t.old result.count result.top t.new }
+// The entry x is filed behind those in the table, of which none has a key above its own.
+fn file(t: &mut [u64], ends: Ends, x: u64) -> Ends
+    requires { (ends.count < ends.top) × ((ends.top ≤ length t.old) × (Rising (take ends.count t.old) × NoneAbove (key_of x) (take ends.count t.old))) }
+    ensures { Filing x ends.count ends.top t.old result.count result.top t.new }
 {
-    let v = look_last(t, n, x / 256);
-    let count = put_last(t, n, x);
-    if v < 256 {
-        t[top - 1] = v * 256 + x % 256;
-        return Ends {
-            count: count,
-            top: top - 1,
-        };
+    let older = look_last(&t[..ends.count], x / 256);
+    let count = put_last(t, ends.count, x);
+    let mut top = ends.top;
+    if let Some(v) = older {
+        top -= 1;
+        t[top] = v * 256 + x % 256;
     }
-    Ends {
-        count: count,
-        top: top,
-    }
+    Ends { count, top }
 }
 
 // The first n entries are filed anew, one after another. Between table and stack there is room for n pairs more.
@@ -57,33 +49,23 @@ pub fn refile(t: &mut [u64], n: usize, top: usize) -> Ends
     requires { (n + n ≤ top) × ((top ≤ length t.old) × Sorted (take n t.old)) }
     ensures { Refiled n top t.old result.count result.top t.new }
 {
-    let mut count = 0;
-    let mut up = top;
-    let mut i = 0;
-    while i < n {
+    let mut ends = Ends { count: 0, top };
+    for i in 0..n {
         let x = t[i];
-        let ends = file(t, count, up, x);
-        count = ends.count;
-        up = ends.top;
-        i += 1;
+        ends = file(t, ends, x);
     }
-    Ends {
-        count: count,
-        top: up,
-    }
+    ends
 }
 
-// The same for facts, where nothing is paired.
-pub fn refact(t: &mut [u64], n: usize) -> usize
-    requires { (n ≤ length t.old) × Sorted (take n t.old) }
-    ensures { Refacted n t.old result t.new }
+// The same for facts, where nothing is paired and the slice has no more than them.
+pub fn refact(t: &mut [u64]) -> usize
+    requires { Sorted t.old }
+    ensures { Refacted t.old result t.new }
 {
     let mut count = 0;
-    let mut i = 0;
-    while i < n {
+    for i in 0..t.len() {
         let x = t[i];
         count = put_last(t, count, x);
-        i += 1;
     }
     count
 }

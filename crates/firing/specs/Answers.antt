@@ -18,13 +18,10 @@ use Rattle.choosing.specs.Choosing.{perhaps}
 
 -- ---- what is asked of the tables, whatever they show
 
-pub record TablesReady (keys : List ℕ) (nk : ℕ) (facts : List ℕ) (nf : ℕ) (dom : List ℕ) (nd : ℕ) : Type 0 where
-  pub key_room : nk ≤ length keys
-  pub rising : Rising (take nk keys)
-  pub fact_room : nf ≤ length facts
-  pub facts_rise : Rising (take nf facts)
-  pub dom_room : nd ≤ length dom
-  pub octets : All (λ e. e < 256) (take nd dom)
+pub record TablesReady (keys facts dom : List ℕ) : Type 0 where
+  pub keys_rise : Rising keys
+  pub facts_rise : Rising facts
+  pub octets : All (λ e. e < 256) dom
 
 -- Chosen elements stand first in the environment.
 abbrev pub Elements : List ℕ → ℕ → Type 0

@@ -1,12 +1,11 @@
 -- One law for each way out of the tests of literals, disjuncts, heads and sequents.
 use Rattle.std.specs.Prelude.{◌≡◌, ℕ, zero, suc, ◌+◌, ◌-◌, ◌≤◌, ◌<◌, Bool, true, false, ◌&&◌, ◌||◌, List, [], ◌∷◌, ◌++◌, map, take}
+use Rattle.std.specs.Prelude as std
 use Rattle.std.proofs.Math.Path.{refl, sym, ap, ap₂, subst}
-use Rattle.std.proofs.Common.{◌∙◌, add-one, length-take-le}
+use Rattle.std.proofs.Common.{◌∙◌, length-take-le}
 use native.Mathlib.Omega.{arith}
 use Rattle.std.proofs.Math.Bool.{not}
-use Rattle.std.proofs.Math.Option.{Option, none, some}
 use Rattle.std.proofs.Math.ListN.{length}
-use Rattle.base.specs.Branch.{case_o}
 use Rattle.base.specs.Lists.{All, all, any}
 use Rattle.base.specs.ListLaws.{all_all}
 use Rattle.rules.specs.Book.{var, Literal, Disjunct, Sequent, Names, completed_disjunct, completed}
@@ -15,14 +14,14 @@ use Rattle.rules.specs.Sheet.{Model}
 use Rattle.rules.specs.Look.{Meaning, body_meanings, head_meanings, look, observed}
 use Rattle.rules.specs.Fire.{disjunct_observed, body_observed, head_observed, fires}
 use Rattle.soundness.specs.Book.{WfLiteral, WfOrigin, WfDisjunct}
-use Rattle.tables.specs.Table.{or_none, is_some}
+use Rattle.tables.specs.Table.{is_some}
+use Rattle.tables.specs.Ways.{some_is}
 use Rattle.texts.specs.Reads.{Follow}
 use Rattle.texts.specs.Names.{names_in}
 use Rattle.texts.specs.Text.{LiteralText, DisjunctText}
 use Rattle.texts.specs.Parts.{literals_grow, disjuncts_grow, disjunct_grows, sequent_grows}
 use Rattle.look.specs.Shown.{Shown, Means}
 use Rattle.look.specs.Answers.{LiteralAt, IsObserved, IsVariable}
-use Rattle.look.specs.Ways.{look_octet}
 use Rattle.skips.specs.Rest.{Skips}
 use Rattle.firing.specs.Answers.{Elements, LiteralsAt, AllObserved, have_elements, HaveElements, MadeEnv, pack_origin, DisjunctAt, IsDisjunct, HeadAt, IsHead, SequentAt, Fires}
 use Rattle.firing.specs.Mentions.{disjunct_fails, disjunct_has}
@@ -100,62 +99,52 @@ module _ (book text : Bytes) (at n : ℕ) (env keys facts dom : List ℕ) where
 
 -- ---- existentials
 
-abbrev pub ElementsLeft : ℕ → ℕ → List ℕ → List ℕ → List ℕ → ℕ → Type 0
-ElementsLeft v k env keys dom i = (d : Names) (m : Model) (ms : List Meaning) → Shown d m keys dom → Means d env ms → v + k ≤ length ms
-    → have_elements m ms v k ≡ have_elements m ms (v + i) (k - i)
+module _ (m : Model) (ms : List Meaning) where
+  have_all : (v k : ℕ) → ((i : ℕ) → i < k → is_some (look (var (v + i)) m ms) ≡ true) → have_elements m ms v k ≡ true
+  unfolding have_elements
+  have_all v zero h = refl
+  have_all v (suc k) h =
+      let z : v + 0 ≡ v = omega arith in
+      let r = have_all (suc v) k (λ i l. let y : v + suc i ≡ suc v + i = omega arith in subst (λ j. is_some (look (var j) m ms) ≡ true) y (h (suc i) (omega arith))) in
+      ap₂ (λ (a b : Bool). a && b) (subst (λ j. is_some (look (var j) m ms) ≡ true) z (h 0 (omega arith))) r
 
-have_next : (m : Model) (ms : List Meaning) (v k : ℕ) → 0 < k → have_elements m ms v k ≡ is_some (look (var v) m ms) && have_elements m ms (v + 1) (k - 1)
-unfolding have_elements
-have_next m ms v zero h = absurd (omega arith)
-have_next m ms v (suc k) h = let z : k ≡ suc k - 1 = omega arith in ap₂ (λ (a b : ℕ). is_some (look (var v) m ms) && have_elements m ms a b) (sym (add-one v)) z
+  have_not : (v k i : ℕ) → i < k → is_some (look (var (v + i)) m ms) ≡ false → have_elements m ms v k ≡ false
+  unfolding have_elements
+  have_not v zero i l h = absurd (omega arith)
+  have_not v (suc k) zero l h =
+      let z : v + 0 ≡ v = omega arith in
+      ap (λ (a : Bool). a && have_elements m ms (suc v) k) (subst (λ j. is_some (look (var j) m ms) ≡ false) z h)
+  have_not v (suc k) (suc i) l h =
+      let y : v + suc i ≡ suc v + i = omega arith in
+      go (is_some (look (var v) m ms)) (have_not (suc v) k i (omega arith) (subst (λ j. is_some (look (var j) m ms) ≡ false) y h))
+    where
+      go : (a : Bool) → have_elements m ms (suc v) k ≡ false → a && have_elements m ms (suc v) k ≡ false
+      go true e = e
+      go false e = refl
 
 module _ (v k : ℕ) (env keys dom : List ℕ) where
-  pub elements_start : ElementsLeft v k env keys dom 0
-  elements_start d m ms s e l = let y : v ≡ v + 0 = omega arith in let z : k ≡ k - 0 = omega arith in ap₂ (have_elements m ms) y z
+  -- Whether variable i of those from v on has an element, by what a look answers.
+  pub record Seen (i : ℕ) (b : Bool) : Type 0 where
+    pub answer : std.Option ℕ
+    pub is : IsVariable env (v + i) keys dom answer
+    pub tests : std.is_some answer ≡ b
 
-  module _ (i r : ℕ) (h : i < k) (left : ElementsLeft v k env keys dom i) (is : IsVariable env (v + i) keys dom r) where
-    here : (d : Names) (m : Model) (ms : List Meaning) → Shown d m keys dom → Means d env ms → v + k ≤ length ms → r ≡ or_none (look (var (v + i)) m ms)
-    unfolding look
-    here d m ms s e l = is d m ms s e (omega arith)
+  seen : (i : ℕ) (b : Bool) → Seen i b → i < k → (d : Names) (m : Model) (ms : List Meaning) → Shown d m keys dom → Means d env ms → v + k ≤ length ms
+      → is_some (look (var (v + i)) m ms) ≡ b
+  unfolding look
+  seen i b s h d m ms x y l = sym (some_is (look (var (v + i)) m ms) s.answer (s.is d m ms x y (omega arith))) ∙ s.tests
 
-    next : (d : Names) (m : Model) (ms : List Meaning) → Shown d m keys dom → Means d env ms → v + k ≤ length ms
-        → have_elements m ms v k ≡ is_some (look (var (v + i)) m ms) && have_elements m ms (v + (i + 1)) (k - (i + 1))
-    next d m ms s e l =
-        let y : v + i + 1 ≡ v + (i + 1) = omega arith in
-        let z : k - i - 1 ≡ k - (i + 1) = omega arith in
-        left d m ms s e l ∙ have_next m ms (v + i) (k - i) (omega arith) ∙ ap₂ (λ (a b : ℕ). is_some (look (var (v + i)) m ms) && have_elements m ms a b) y z
+  pub elements_all : ((i : ℕ) → i < k → Seen i true) → HaveElements v k env keys dom true
+  elements_all f d m ms x y l = sym (have_all m ms v k (λ i h. seen i true (f i h) h d m ms x y l))
 
-    none_of : (o : Option ℕ) → r ≡ or_none o → 256 ≤ r → r ≤ 256 → ((w : ℕ) → o ≡ some w → w < 256) → is_some o ≡ false
-    unfolding or_none is_some case_o
-    none_of none q a b f = refl
-    none_of (some w) q a b f = let z = f w refl in absurd (omega arith)
-
-    some_of : (o : Option ℕ) → r ≡ or_none o → r < 256 → is_some o ≡ true
-    unfolding or_none is_some case_o
-    some_of none q a = absurd (omega arith)
-    some_of (some w) q a = refl
-
-    pub elements_next : r < 256 → ElementsLeft v k env keys dom (i + 1)
-    elements_next b d m ms s e l =
-        next d m ms s e l ∙ ap (λ (x : Bool). x && have_elements m ms (v + (i + 1)) (k - (i + 1))) (some_of (look (var (v + i)) m ms) (here d m ms s e l) b)
-
-    pub elements_stop : 256 ≤ r → r ≤ 256 → HaveElements v k env keys dom false
-    elements_stop a b d m ms s e l =
-        sym (next d m ms s e l ∙ ap (λ (x : Bool). x && have_elements m ms (v + (i + 1)) (k - (i + 1)))
-        (none_of (look (var (v + i)) m ms) (here d m ms s e l) a b (look_octet s ms e.plain (var (v + i)) (omega arith))))
-
-  pub elements_end : (i : ℕ) → k ≤ i → ElementsLeft v k env keys dom i → HaveElements v k env keys dom true
-  unfolding have_elements
-  elements_end i h left d m ms s e l = let z : k - i ≡ 0 = omega arith in sym (left d m ms s e l ∙ ap (have_elements m ms (v + i)) z)
+  pub elements_not : (i : ℕ) → i < k → Seen i false → HaveElements v k env keys dom false
+  elements_not i h s d m ms x y l = sym (have_not m ms v k i h (seen i false s h d m ms x y l))
 
 -- ---- a disjunct
 
 module _ (book text : Bytes) (at : ℕ) (env : List ℕ) (v : ℕ) (keys facts dom : List ℕ) (elements : Elements env v) where
   pub disjunct_short : (r : Bool) → length text - at < 2 → IsDisjunct book text at env v keys facts dom r
   disjunct_short r h m d e s = let g = disjunct_grows (names_in book) text at d e s.stands in let f = s.fits in absurd (omega arith)
-
-  pub disjunct_wide : (k : ℕ) (r : Bool) → k ≡ num text at → length env - v < k → IsDisjunct book text at env v keys facts dom r
-  disjunct_wide k r q h m d e s = let f = s.few in let z = s.stands.count in let w = elements.0 in absurd (omega arith)
 
   module _ (k : ℕ) (q : k ≡ num text at) (env' : List ℕ) (b : ℕ) (made : MadeEnv book text (at + 2) k env v env' b) where
     made_of : (m : Model) (d : Disjunct) (e : ℕ) (s : DisjunctAt book text at (length env) v keys facts dom m d e)

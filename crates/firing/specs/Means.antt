@@ -1,5 +1,5 @@
 -- What the variables of a body and of a disjunct stand for at chosen elements, as numbers; and tables that show a neat model.
-use Rattle.std.specs.Prelude.{◌≡◌, refl, ℕ, ◌+◌, ◌≤◌, T, length, take}
+use Rattle.std.specs.Prelude.{◌≡◌, refl, ℕ, ◌+◌, ◌≤◌, T, length}
 use Rattle.std.proofs.Math.Path.{sym, ap₂}
 use Rattle.std.proofs.Common.{◌∙◌, subst, arith}
 use mathlib.Core.List.{List, [], ◌∷◌, ◌++◌, map}
@@ -68,15 +68,10 @@ unfolding domain
 domain_octets {d} {m} s =
     subst (All Octet) (sym s.domain_is) (firsts_all Octet (map (λ (x : Entry). x.1) m.keys) (all_map (FitsEntry (arity_of d)) Octet (λ (x : Entry). x.1) (λ x p. p.value) m.keys s.keys_fit))
 
-shown_ready : (d : Names) (m : Model) (keys : List ℕ) (nk : ℕ) (facts : List ℕ) (nf : ℕ) (dom : List ℕ) (nd : ℕ)
-    → nk ≤ length keys → nf ≤ length facts → nd ≤ length dom → KeysRise m.keys → FactsRise m.facts
-    → Sees d m (take nk keys) (take nf facts) (take nd dom) → TablesReady keys nk facts nf dom nd
-shown_ready d m keys nk facts nf dom nd a b c k f s = record {
-  key_room = a;
-  rising = subst Rising (sym s.shown.keys_are) (rising_is (arity_of d) m.keys s.shown.keys_fit k);
-  fact_room = b;
+shown_ready : (d : Names) (m : Model) (keys facts dom : List ℕ) → KeysRise m.keys → FactsRise m.facts → Sees d m keys facts dom → TablesReady keys facts dom
+shown_ready d m keys facts dom k f s = record {
+  keys_rise = subst Rising (sym s.shown.keys_are) (rising_is (arity_of d) m.keys s.shown.keys_fit k);
   facts_rise = subst Rising (sym s.held.facts_are) (facts_rising_is (arity_of d) m.facts s.held.facts_fit f);
-  dom_room = c;
   octets = domain_octets s.shown;
 }
 
@@ -85,7 +80,5 @@ module _ (d : Names) (small : SmallNames d) (lim : Limits) (m : Model) (neat : N
   pub neat_sees : (keys facts dom : List ℕ) → keys ≡ map pack_entry m.keys → facts ≡ map pack_fact m.facts → dom ≡ domain m → Sees d m keys facts dom
   neat_sees keys facts dom p q r = record { shown = neat_shown d small lim m neat few keys dom p r; held = neat_facts_shown d small lim m neat few facts q }
 
-  pub neat_ready : (keys : List ℕ) (nk : ℕ) (facts : List ℕ) (nf : ℕ) (dom : List ℕ) (nd : ℕ) → nk ≤ length keys → nf ≤ length facts → nd ≤ length dom
-      → take nk keys ≡ map pack_entry m.keys → take nf facts ≡ map pack_fact m.facts → take nd dom ≡ domain m → TablesReady keys nk facts nf dom nd
-  neat_ready keys nk facts nf dom nd a b c p q r =
-      shown_ready d m keys nk facts nf dom nd a b c neat.listed.keys_rise neat.listed.facts_rise (neat_sees (take nk keys) (take nf facts) (take nd dom) p q r)
+  pub neat_ready : (keys facts dom : List ℕ) → keys ≡ map pack_entry m.keys → facts ≡ map pack_fact m.facts → dom ≡ domain m → TablesReady keys facts dom
+  neat_ready keys facts dom p q r = shown_ready d m keys facts dom neat.listed.keys_rise neat.listed.facts_rise (neat_sees keys facts dom p q r)

@@ -3,7 +3,7 @@ use Rattle.std.specs.Prelude.{◌≡◌, refl, ℕ, zero, suc, ◌-◌, ◌≤�
 use Rattle.std.proofs.Math.Path.{sym, ap}
 use Rattle.std.proofs.Common.{◌∙◌, subst, arith, length-take-le}
 use Rattle.std.proofs.Math.Option.{Option, none, some}
-use mathlib.Core.List.{List, []}
+use mathlib.Core.List.{List, [], ◌∷◌}
 use Rattle.base.specs.Branch.{case_o}
 use Rattle.base.specs.Lists.{All, first_of}
 use Rattle.base.specs.ListLaws.{all_map, all_get_d}
@@ -52,7 +52,7 @@ pub zeros_below : (v n : ℕ) → (0 < v → 0 < n) → Below n (replicate v 0)
 zeros_below zero n h = tt
 zeros_below (suc v) n h = (h (omega arith), zeros_below v n (λ _. h (omega arith)))
 
--- ---- the same over the first entries of longer lists, and that the choices left grow fewer
+-- ---- the same where the indices are the first of a longer list, and that the choices left grow fewer
 
 fewer : (v : ℕ) (d is js : List ℕ) → length is ≡ v → Below (length d) is → after (length d) is ≡ some js → length (onward v d js) < length (onward v d is)
 unfolding case_o
@@ -61,32 +61,23 @@ fewer v d is js l b e =
     ap (λ (cs : List (List ℕ)). length cs) (onward_next v d is l b) ∙ ap (λ (o : Option (List ℕ)). suc (length (case_o o (λ _. []) (onward v d)))) e in
     omega arith
 
-module _ (book text : Bytes) (at v : ℕ) (keys facts dom : List ℕ) (nd : ℕ) (idx env : List ℕ) (room : nd ≤ length dom) (wide : v ≤ length idx) (b : Below nd (take v idx)) where
+module _ (book text : Bytes) (at v : ℕ) (keys facts dom idx : List ℕ) (wide : v ≤ length idx) (b : Below (length dom) (take v idx)) where
   width : length (take v idx) ≡ v
   width = length-take-le v idx wide
 
-  size : length (take nd dom) ≡ nd
-  size = length-take-le nd dom room
+  pub choices_fall : (idx' : List ℕ) → after (length dom) (take v idx) ≡ some (take v idx') → length (onward v dom (take v idx')) < length (onward v dom (take v idx))
+  choices_fall idx' a = fewer v dom (take v idx) (take v idx') width b a
 
-  below : Below (length (take nd dom)) (take v idx)
-  below = subst (λ n. Below n (take v idx)) (sym size) b
+  module _ (env : List ℕ) (e : take v env ≡ chosen dom (take v idx)) (so : Searching book text at v keys facts dom (take v idx)) where
+    pub step_found : Fires book text at env v keys facts dom true → (env' : List ℕ) → take v env' ≡ take v env → FirstFrom book text at v keys facts dom true env'
+    step_found = search_found book text at v keys facts dom (take v idx) env width b e so
 
-  onto : (o : Option (List ℕ)) → after nd (take v idx) ≡ o → after (length (take nd dom)) (take v idx) ≡ o
-  onto o e = subst (λ n. after n (take v idx) ≡ o) (sym size) e
+    pub step_next : Fires book text at env v keys facts dom false → (idx' : List ℕ) → after (length dom) (take v idx) ≡ some (take v idx')
+        → Searching book text at v keys facts dom (take v idx')
+    step_next f idx' a = search_next book text at v keys facts dom (take v idx) env width b e so f (take v idx') a
 
-  pub choices_fall : (idx' : List ℕ) → after nd (take v idx) ≡ some (take v idx') → length (onward v (take nd dom) (take v idx')) < length (onward v (take nd dom) (take v idx))
-  choices_fall idx' a = fewer v (take nd dom) (take v idx) (take v idx') width below (onto (some (take v idx')) a)
-
-  module _ (e : take v env ≡ chosen (take nd dom) (take v idx)) (so : Searching book text at v keys facts (take nd dom) (take v idx)) where
-    pub step_found : Fires book text at env v keys facts (take nd dom) true → (env' : List ℕ) → take v env' ≡ take v env → FirstFrom book text at v keys facts (take nd dom) true env'
-    step_found = search_found book text at v keys facts (take nd dom) (take v idx) env width below e so
-
-    pub step_next : Fires book text at env v keys facts (take nd dom) false → (idx' : List ℕ) → after nd (take v idx) ≡ some (take v idx')
-        → Searching book text at v keys facts (take nd dom) (take v idx')
-    step_next f idx' a = search_next book text at v keys facts (take nd dom) (take v idx) env width below e so f (take v idx') (onto (some (take v idx')) a)
-
-    pub step_none : Fires book text at env v keys facts (take nd dom) false → after nd (take v idx) ≡ none → (env' : List ℕ) → FirstFrom book text at v keys facts (take nd dom) false env'
-    step_none f a env' = search_none book text at v keys facts (take nd dom) (take v idx) env width below e so f (onto none a) env'
+    pub step_none : Fires book text at env v keys facts dom false → after (length dom) (take v idx) ≡ none → (env' : List ℕ) → FirstFrom book text at v keys facts dom false env'
+    step_none f a env' = search_none book text at v keys facts dom (take v idx) env width b e so f a env'
 
 -- ---- the indices that a search starts with
 
@@ -104,6 +95,10 @@ chosen_small d is n l a b = all_map (λ j. j < n) (λ e. e < 256) (λ (j : ℕ).
 
 -- ---- one law for each way out of the search over a sequent's text
 
+empty : (d : List ℕ) → length d ≡ 0 → d ≡ []
+empty [] e = refl
+empty (x ∷ xs) e = absurd (omega arith)
+
 module _ (book text : Bytes) (keys facts dom : List ℕ) (env : List ℕ) where
   pub choice_short : (r : Bool) → length text < 4 → FirstChoice book text keys facts dom r env
   choice_short r h m q s = let g = sequent_grows (names_in book) text 0 q (length text) s.stands in absurd (omega arith)
@@ -112,11 +107,11 @@ module _ (book text : Bytes) (keys facts dom : List ℕ) (env : List ℕ) where
     pub choice_wide : (r : Bool) → 4 < v → FirstChoice book text keys facts dom r env
     choice_wide r h m q s = let f = s.stands.free in let w = s.rule.few in absurd (omega arith)
 
-    pub choice_none : 0 < v → dom ≡ [] → FirstChoice book text keys facts dom false env
+    pub choice_none : 0 < v → length dom ≡ 0 → FirstChoice book text keys facts dom false env
     unfolding first_of
     choice_none h z m q s =
         let f : v ≡ q.free = is ∙ s.stands.free in
-        let d : domain m ≡ [] = sym s.sees.shown.domain_is ∙ z in
+        let d : domain m ≡ [] = sym s.sees.shown.domain_is ∙ empty dom z in
         ap (first_of (fires m (completed q))) (ap (choices q.free) d ∙ none_chosen q.free (omega arith))
 
     module _ (at : ℕ) (o : SkipsMany (LiteralText (names_in book) text) (length text) 4 (num text 2) at) where

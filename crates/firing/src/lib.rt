@@ -4,13 +4,13 @@
 #![tactic(auto)]
 
 ghost use Rattle.std.specs.Prelude.{◌≡◌, ◌+◌, ◌≤◌, ◌<◌, length, take};
-ghost use Rattle.look.specs.Answers.{Ready, FactsReady};
+ghost use Rattle.base.specs.Lists.{All};
 ghost use Rattle.skips.specs.Rest.{Within};
-ghost use Rattle.firing.specs.Answers.{TablesReady, Elements, AllObserved, HaveElements, IsOriginKey, MadeEnv, IsDisjunct, IsHead, Fires, FirstChoice};
+ghost use Rattle.firing.specs.Answers.{Elements, AllObserved, HaveElements, IsOriginKey, MadeEnv, IsDisjunct, IsHead, Fires, FirstChoice};
 ghost use Rattle.firing.specs.Search.{FirstFrom};
 
 use choosing::{advance, choose};
-use look::{begin, look_variable, observed, place};
+use look::{TOP, Tables, begin, look_variable, observed, place};
 use skips::{skip_disjunct, skip_literal, skip_literals, skip_origin};
 use words::num16;
 
@@ -21,50 +21,31 @@ pub fn literals_observed(
     at: usize,
     n: u64,
     env: &[u64],
-    ne: usize,
-    keys: &[u64],
-    nk: usize,
-    facts: &[u64],
-    nf: usize,
-    dom: &[u64],
-    nd: usize,
+    t: &Tables<'_>,
 ) -> bool
-    requires { (at ≤ length text.now) × ((length text.now ≤ 32768) × (Ready env.now ne keys.now nk dom.now nd × FactsReady facts.now nf)) }
-    ensures { AllObserved book.now text.now at n (take ne env.now) (take nk keys.now) (take nf facts.now) (take nd dom.now) result }
+    requires { (at ≤ length text.now) × (length text.now ≤ 32768) }
+    ensures { AllObserved book.now text.now at n env.now t.now.keys.now t.now.facts.now t.now.domain.now result }
 {
     let mut p = at;
-    let mut i = 0;
-    while i < n {
-        if !observed(book, text, p, env, ne, keys, nk, facts, nf, dom, nd) {
+    for i in 0..n {
+        if !observed(book, text, p, env, t) {
             return false;
         }
         p = skip_literal(book, text, p);
-        i += 1;
     }
     true
 }
 
 // Do k variables from v on have elements?
-pub fn have_elements(
-    env: &[u64],
-    ne: usize,
-    v: usize,
-    k: usize,
-    keys: &[u64],
-    nk: usize,
-    dom: &[u64],
-    nd: usize,
-) -> bool
-    requires { (v + k ≤ ne) × Ready env.now ne keys.now nk dom.now nd }
-    ensures { HaveElements v k (take ne env.now) (take nk keys.now) (take nd dom.now) result }
+pub fn have_elements(env: &[u64], v: usize, k: usize, t: &Tables<'_>) -> bool
+    requires { v + k ≤ length env.now }
+    ensures { HaveElements v k env.now t.now.keys.now t.now.domain.now result }
 {
-    let mut i = 0;
-    while i < k {
-        let e = look_variable(env, ne, (v + i) as u64, keys, nk, dom, nd);
-        if e >= 256 {
+    // No `all`: its closure would need clauses of its own, longer than the loop.
+    for i in 0..k {
+        if look_variable(env, (v + i) as u64, t).is_none() {
             return false;
         }
-        i += 1;
     }
     true
 }
@@ -80,16 +61,14 @@ pub fn origin_key(text: &[u8], at: usize, env: &[u64], v: usize) -> u64
     }
     let n = num16(text, at + 4);
     let mut acc = begin(3 + kind, num16(text, at + 2), n);
-    let mut w = 16777216;
-    let mut i = 0;
-    while i < n {
+    let mut w = TOP;
+    for i in 0..n {
         let j = num16(text, at + 6 + 2 * (i as usize)) as usize;
         if j >= v {
             return 0;
         }
         acc = place(acc, env[j], w);
-        w = w / 256;
-        i += 1;
+        w /= 256;
     }
     acc
 }
@@ -100,11 +79,9 @@ pub fn make_env(book: &[u8], text: &[u8], at: usize, k: usize, env: &mut [u64], 
     ensures { Within at (length text.now) result × ((take v env.new ≡ take v env.old) × MadeEnv book.now text.now at k env.old v env.new result) }
 {
     let mut p = at;
-    let mut i = 0;
-    while i < k {
+    for i in 0..k {
         env[v + i] = origin_key(text, p, env, v);
         p = skip_origin(book, text, p);
-        i += 1;
     }
     p
 }
@@ -116,15 +93,11 @@ pub fn disjunct_observed(
     at: usize,
     env: &mut [u64],
     v: usize,
-    keys: &[u64],
-    nk: usize,
-    facts: &[u64],
-    nf: usize,
-    dom: &[u64],
-    nd: usize,
+    t: &Tables<'_>,
 ) -> bool
-    requires { (at ≤ length text.now) × ((length text.now ≤ 32768) × (Elements env.old v × TablesReady keys.now nk facts.now nf dom.now nd)) }
-    ensures { (take v env.new ≡ take v env.old) × IsDisjunct book.now text.now at env.old v (take nk keys.now) (take nf facts.now) (take nd dom.now) result }
+    requires { (at ≤ length text.now) × ((length text.now ≤ 32768) × Elements env.old v) }
+    ensures env_unchanged { take v env.new ≡ take v env.old }
+    ensures disjunct { IsDisjunct book.now text.now at env.old v t.now.keys.now t.now.facts.now t.now.domain.now result }
 {
     if text.len() - at < 2 {
         return false;
@@ -138,12 +111,8 @@ pub fn disjunct_observed(
         return false;
     }
     let n = num16(text, middle);
-    let first = middle + 2;
-    let ne = v + k;
-    if !literals_observed(book, text, first, n, env, ne, keys, nk, facts, nf, dom, nd) {
-        return false;
-    }
-    have_elements(env, ne, v, k, keys, nk, dom, nd)
+    let made = &env[..v + k];
+    literals_observed(book, text, middle + 2, n, made, t) && have_elements(made, v, k, t)
 }
 
 // Is one of n disjuncts from a place on observed?
@@ -154,51 +123,34 @@ pub fn head_observed(
     n: u64,
     env: &mut [u64],
     v: usize,
-    keys: &[u64],
-    nk: usize,
-    facts: &[u64],
-    nf: usize,
-    dom: &[u64],
-    nd: usize,
+    t: &Tables<'_>,
 ) -> bool
-    requires { (at ≤ length text.now) × ((length text.now ≤ 32768) × (Elements env.old v × TablesReady keys.now nk facts.now nf dom.now nd)) }
-    ensures { (take v env.new ≡ take v env.old) × IsHead book.now text.now at n env.old v (take nk keys.now) (take nf facts.now) (take nd dom.now) result }
+    requires { (at ≤ length text.now) × ((length text.now ≤ 32768) × Elements env.old v) }
+    ensures env_unchanged { take v env.new ≡ take v env.old }
+    ensures head { IsHead book.now text.now at n env.old v t.now.keys.now t.now.facts.now t.now.domain.now result }
 {
     let mut p = at;
-    let mut i = 0;
-    while i < n {
-        if disjunct_observed(book, text, p, env, v, keys, nk, facts, nf, dom, nd) {
+    for i in 0..n {
+        if disjunct_observed(book, text, p, env, v, t) {
             return true;
         }
         p = skip_disjunct(book, text, p);
-        i += 1;
     }
     false
 }
 
 // Does the sequent fire at v chosen elements? Its head stands at a place.
-pub fn fires(
-    book: &[u8],
-    text: &[u8],
-    at: usize,
-    env: &mut [u64],
-    v: usize,
-    keys: &[u64],
-    nk: usize,
-    facts: &[u64],
-    nf: usize,
-    dom: &[u64],
-    nd: usize,
-) -> bool
-    requires { (at + 2 ≤ length text.now) × ((4 ≤ length text.now) × ((length text.now ≤ 32768) × ((8 ≤ length env.old) × (Elements env.old v × TablesReady keys.now nk facts.now nf dom.now nd)))) }
-    ensures { (take v env.new ≡ take v env.old) × Fires book.now text.now at env.old v (take nk keys.now) (take nf facts.now) (take nd dom.now) result }
+pub fn fires(book: &[u8], text: &[u8], at: usize, env: &mut [u64], v: usize, t: &Tables<'_>) -> bool
+    requires { (at + 2 ≤ length text.now) × ((4 ≤ length text.now) × ((length text.now ≤ 32768) × ((8 ≤ length env.old) × Elements env.old v))) }
+    ensures env_unchanged { take v env.new ≡ take v env.old }
+    ensures fires { Fires book.now text.now at env.old v t.now.keys.now t.now.facts.now t.now.domain.now result }
 {
     let n = num16(text, 2);
-    if !literals_observed(book, text, 4, n, env, v, keys, nk, facts, nf, dom, nd) {
+    if !literals_observed(book, text, 4, n, &env[..v], t) {
         return false;
     }
     let k = num16(text, at);
-    !head_observed(book, text, at + 2, k, env, v, keys, nk, facts, nf, dom, nd)
+    !head_observed(book, text, at + 2, k, env, v, t)
 }
 
 // The first choice at which the sequent fires, left in the environment, if there is one. Its head stands at a place.
@@ -208,58 +160,40 @@ pub fn first_from(
     at: usize,
     v: usize,
     env: &mut [u64],
-    keys: &[u64],
-    nk: usize,
-    facts: &[u64],
-    nf: usize,
-    dom: &[u64],
-    nd: usize,
+    t: &Tables<'_>,
 ) -> bool
-    requires { (at + 2 ≤ length text.now) × ((4 ≤ length text.now) × ((length text.now ≤ 32768) × ((8 ≤ length env.old) × ((v ≤ 4) × ((0 < v → 0 < nd) × TablesReady keys.now nk facts.now nf dom.now nd))))) }
-    ensures { FirstFrom book.now text.now at v (take nk keys.now) (take nf facts.now) (take nd dom.now) result env.new }
+    requires fits { (at + 2 ≤ length text.now) × ((4 ≤ length text.now) × ((length text.now ≤ 32768) × ((8 ≤ length env.old) × ((v ≤ 4) × (0 < v → 0 < length t.now.domain.now))))) }
+    requires octets { All (λ e. e < 256) t.now.domain.now }
+    ensures { FirstFrom book.now text.now at v t.now.keys.now t.now.facts.now t.now.domain.now result env.new }
 {
+    let nd = t.domain.len();
     let mut idx = [0usize; 4];
-    choose(dom, nd, &idx, v, env);
-    while !fires(book, text, at, env, v, keys, nk, facts, nf, dom, nd) {
+    // A `loop`: a choice comes from the one before it, and `advance` says which is the last.
+    loop {
+        choose(t.domain, nd, &idx, v, env);
+        if fires(book, text, at, env, v, t) {
+            return true;
+        }
         if !advance(&mut idx, v, nd) {
             return false;
         }
-        choose(dom, nd, &idx, v, env);
     }
-    true
 }
 
 // The first choice at which the sequent fires, if there is one: it is left in the environment. Over an empty domain a sequent
 // with free variables has no choice, and one without has one.
-pub fn first_choice(
-    book: &[u8],
-    text: &[u8],
-    env: &mut [u64],
-    keys: &[u64],
-    nk: usize,
-    facts: &[u64],
-    nf: usize,
-    dom: &[u64],
-    nd: usize,
-) -> bool
-    requires { (length text.now ≤ 32768) × ((8 ≤ length env.old) × TablesReady keys.now nk facts.now nf dom.now nd) }
-    ensures { FirstChoice book.now text.now (take nk keys.now) (take nf facts.now) (take nd dom.now) result env.new }
+pub fn first_choice(book: &[u8], text: &[u8], env: &mut [u64], t: &Tables<'_>) -> bool
+    requires fits { (length text.now ≤ 32768) × (8 ≤ length env.old) }
+    requires octets { All (λ e. e < 256) t.now.domain.now }
+    ensures { FirstChoice book.now text.now t.now.keys.now t.now.facts.now t.now.domain.now result env.new }
 {
     if text.len() < 4 {
         return false;
     }
     let v = num16(text, 0) as usize;
-    if v > 4 {
+    if v > 4 || v > 0 && t.domain.is_empty() {
         return false;
-    }
-    if v > 0 {
-        if nd == 0 {
-            return false;
-        }
     }
     let at = skip_literals(book, text, 4, num16(text, 2));
-    if text.len() - at < 2 {
-        return false;
-    }
-    first_from(book, text, at, v, env, keys, nk, facts, nf, dom, nd)
+    text.len() - at >= 2 && first_from(book, text, at, v, env, t)
 }

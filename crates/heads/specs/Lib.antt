@@ -1,4 +1,5 @@
 -- The lists of a pool's header, changed in place, and a sheet written into its slot.
+pub mod Numbers
 pub mod Shift
 pub mod Lists
 pub mod Writes

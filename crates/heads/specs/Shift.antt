@@ -1,13 +1,14 @@
--- A list of 64 bytes in a pool, one slot shorter or longer, as its loops write it, and that this is the list filled up with zeros.
+-- A list of 64 bytes in a pool, one slot shorter or longer, as it is written, and that this is the list filled up with zeros.
 use Rattle.std.specs.Prelude.{◌≡◌}
 use Rattle.std.proofs.Math.Path.{sym, ap, ap₂}
-use Rattle.std.proofs.Common.{◌∙◌, add-one, length-drop, take-append-drop, take-suc, drop-cons, drop-drop, length-take-le, get_or-drop}
+use Rattle.std.proofs.Common.{◌∙◌, add-one, length-drop, take-suc, drop-cons, drop-drop, length-take-le, get_or-drop}
 use Prim.Native.Nat.{ℕ, suc, ◌+◌, ◌-◌, ◌≤◌, ◌<◌}
 use native.Mathlib.Omega.{arith}
 use mathlib.Core.List.{List, [], ◌∷◌, ◌++◌, append_assoc}
 use Rattle.std.proofs.Math.ListN.{length, get_or, take, drop, set, replicate, length-append, length-replicate, replicate-append-replicate}
-use Rattle.std.proofs.Math.Seq.{set_at, append_snoc, take_at, drop_at}
-use Rattle.std.proofs.lemmas.List.{get_or_at}
+use Rattle.std.proofs.Math.Seq.{set_at, append_snoc, take_at, drop_at, take-take, paste}
+use Rattle.std.proofs.lemmas.List.{set_split, take-append-le, drop-take}
+use Rattle.std.specs.List.{copy_within}
 use Rattle.rules.specs.Reading.{Bytes}
 use Rattle.rules.specs.Image.{part, padded}
 use Rattle.tables.specs.Table.{insert_at}
@@ -24,53 +25,17 @@ part_long a j p h = length-take-le j (drop a p) (simp length-drop (omega arith))
 
 -- ---- a list without its first slot
 
--- j entries of the list at a place have moved down.
-unfoldable pub moved : Bytes → ℕ → ℕ → Bytes
-moved p at j = take at p ++ (part (at + 1) j p ++ drop (at + j) p)
-
-pub moved_none : (p : Bytes) (at : ℕ) → p ≡ moved p at 0
-unfolding moved part
-moved_none p at = let e : at + 0 ≡ at = omega arith in sym (ap (λ k. take at p ++ drop k p) e ∙ take-append-drop at p)
-
-module _ (p : Bytes) (at j : ℕ) (h : at + j + 1 < length p) where
-  front_long : length (take at p ++ part (at + 1) j p) ≡ at + j
-  front_long = length-append (take at p) (part (at + 1) j p) ∙ ap₂ (λ (x y : ℕ). x + y) (length-take-le at p (omega arith)) (part_long (at + 1) j p (omega arith))
-
-  split : moved p at j ≡ (take at p ++ part (at + 1) j p) ++ get_or p (at + j) 0 ∷ (get_or p (at + j + 1) 0 ∷ drop (suc (at + j + 1)) p)
-  unfolding moved
-  split =
-      let e : suc (at + j) ≡ at + j + 1 = omega arith in
-      sym (append_assoc (take at p) (part (at + 1) j p) (drop (at + j) p))
-      ∙ ap (λ (l : Bytes). (take at p ++ part (at + 1) j p) ++ l) (drop-cons p (at + j) 0 (omega arith) ∙ ap (λ k. get_or p (at + j) 0 ∷ drop k p) e
-      ∙ ap (λ (l : Bytes). get_or p (at + j) 0 ∷ l) (drop-cons p (at + j + 1) 0 h))
-
-  pub moved_next : get_or (moved p at j) (at + j + 1) 0 ≡ get_or p (at + j + 1) 0
-  moved_next =
-      ap (λ l. get_or l (at + j + 1) 0) (split ∙ sym (append_snoc (take at p ++ part (at + 1) j p) (get_or p (at + j) 0) (get_or p (at + j + 1) 0 ∷ drop (suc (at + j + 1)) p)))
-      ∙ get_or_at ((take at p ++ part (at + 1) j p) ++ (get_or p (at + j) 0 ∷ [])) (get_or p (at + j + 1) 0) (drop (suc (at + j + 1)) p) 0 (at + j + 1)
-      (length-append (take at p ++ part (at + 1) j p) (get_or p (at + j) 0 ∷ []) ∙ omega (arith, front_long))
-
-  pub moved_more : set (moved p at j) (at + j) (get_or p (at + j + 1) 0) ≡ moved p at (j + 1)
-  unfolding moved
-  moved_more =
-      let e : at + 1 + j ≡ at + j + 1 = omega arith in
-      let f : at + j + 1 ≡ at + (j + 1) = omega arith in
-      ap (λ l. set l (at + j) (get_or p (at + j + 1) 0)) split
-      ∙ set_at (take at p ++ part (at + 1) j p) (get_or p (at + j) 0) (get_or p (at + j + 1) 0 ∷ drop (suc (at + j + 1)) p) (get_or p (at + j + 1) 0) (at + j) front_long
-      ∙ ap (λ (l : Bytes). (take at p ++ part (at + 1) j p) ++ (get_or p (at + j + 1) 0 ∷ l)) (sym (drop-cons p (at + j + 1) 0 h))
-      ∙ append_assoc (take at p) (part (at + 1) j p) (get_or p (at + j + 1) 0 ∷ drop (at + j + 1) p)
-      ∙ ap (λ (l : Bytes). take at p ++ l) (sym (append_snoc (part (at + 1) j p) (get_or p (at + j + 1) 0) (drop (at + j + 1) p))
-      ∙ ap₂ (λ (x y : Bytes). x ++ y) (ap (λ k. part (at + 1) j p ++ (get_or p k 0 ∷ [])) (sym e) ∙ sym (part_more p (at + 1) j (omega arith)) ∙ ap (λ k. part (at + 1) k p) (sym (add-one j))) (ap (λ k. drop k p) f))
-
--- All 64 moved, and a zero behind them.
+-- All behind the first have moved down, and a zero stands behind them.
 unfoldable pub moved_down : ℕ → Bytes → Bytes
 moved_down at p = take at p ++ (part (at + 1) 63 p ++ (0 ∷ drop (at + 64) p))
 
-pub moved_last : (p : Bytes) (at : ℕ) → at + 64 ≤ length p → set (moved p at 63) (at + 63) 0 ≡ moved_down at p
-unfolding moved moved_down
-moved_last p at h =
+pub lowered : (p : Bytes) (at : ℕ) → at + 64 ≤ length p → set (copy_within p (at + 1) (at + 64) at) (at + 63) 0 ≡ moved_down at p
+unfolding moved_down part
+lowered p at h =
+    let n : at + 64 - (at + 1) ≡ 63 = omega arith in
     let e : suc (at + 63) ≡ at + 64 = omega arith in
-    ap (λ l. set l (at + 63) 0) (sym (append_assoc (take at p) (part (at + 1) 63 p) (drop (at + 63) p)) ∙ ap (λ (l : Bytes). (take at p ++ part (at + 1) 63 p) ++ l) (drop-cons p (at + 63) 0 (omega arith)))
+    ap (λ k. set (paste p at (drop (at + 1) p) k) (at + 63) 0) n
+    ∙ ap (λ l. set l (at + 63) 0) (ap (λ (l : Bytes). (take at p ++ part (at + 1) 63 p) ++ l) (drop-cons p (at + 63) 0 (omega arith)))
     ∙ set_at (take at p ++ part (at + 1) 63 p) (get_or p (at + 63) 0) (drop (suc (at + 63)) p) 0 (at + 63)
     (length-append (take at p) (part (at + 1) 63 p) ∙ ap₂ (λ (x y : ℕ). x + y) (length-take-le at p (omega arith)) (part_long (at + 1) 63 p (omega arith)))
     ∙ append_assoc (take at p) (part (at + 1) 63 p) (0 ∷ drop (suc (at + 63)) p) ∙ ap (λ k. take at p ++ (part (at + 1) 63 p ++ (0 ∷ drop k p))) e
@@ -79,6 +44,21 @@ moved_last p at h =
 
 unfoldable pub moved_up : ℕ → ℕ → Bytes → Bytes
 moved_up at x p = insert_at at x (take (at + 63) p) ++ drop (at + 63 + 1) p
+
+pub raised : (p : Bytes) (at x : ℕ) → at + 64 ≤ length p → set (copy_within p at (at + 63) (at + 1)) at x ≡ moved_up at x p
+unfolding moved_up
+raised p at x h =
+    let m : at + 63 - at ≡ 63 = omega arith in
+    let r : Bytes = take 63 (drop at p) ++ drop (at + 1 + 63) p in
+    let n : length (take (at + 1) p) ≡ suc at = length-take-le (at + 1) p (omega arith) ∙ add-one at in
+    let f : take at (take (at + 1) p ++ r) ≡ take at p = take-append-le at (take (at + 1) p) r (omega arith) ∙ take-take at (at + 1) p (omega arith) in
+    let b : drop (suc at) (take (at + 1) p ++ r) ≡ r = drop_at (take (at + 1) p) r (suc at) n in
+    let e : at + 1 + 63 ≡ at + 63 + 1 = omega arith in
+    ap (λ k. set (paste p (at + 1) (drop at p) k) at x) m ∙ ap (λ l. set l at x) (append_assoc (take (at + 1) p) (take 63 (drop at p)) (drop (at + 1 + 63) p))
+    ∙ set_split (take (at + 1) p ++ r) at x (omega (arith, length-append (take (at + 1) p) r)) ∙ ap₂ (λ (u v : Bytes). u ++ (x ∷ v)) f b
+    ∙ ap (λ k. take at p ++ (x ∷ (take 63 (drop at p) ++ drop k p))) e
+    ∙ sym (append_assoc (take at p) (x ∷ take 63 (drop at p)) (drop (at + 63 + 1) p))
+    ∙ ap₂ (λ (u v : Bytes). (u ++ (x ∷ v)) ++ drop (at + 63 + 1) p) (sym (take-take at (at + 63) p (omega arith))) (sym (drop-take at 63 p))
 
 -- ---- on a list filled up with zeros, behind a and before z
 

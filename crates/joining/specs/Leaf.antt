@@ -3,17 +3,15 @@ use Rattle.std.specs.Prelude.{◌≡◌, ℕ, ◌+◌, ◌≤◌, length, drop}
 use Rattle.std.proofs.Math.Path.{sym, ap, ap₂}
 use Rattle.std.proofs.Common.{◌∙◌, subst, arith, inl, drop_of_length-le}
 use mathlib.Core.List.{List, [], ◌++◌, map, append-nil}
-use Rattle.std.proofs.Math.ListN.{take, length-drop}
+use Rattle.std.proofs.Math.ListN.{take, length-take, length-drop}
 use lib.Seq.{drop_at, take_all, length-take-le, take-append-le}
 use borrow.Rule.Slice.PartMut.{put_mid}
 use Rattle.rules.specs.Image.{part}
 use Rattle.packing.specs.Replace.{replaced}
 use Rattle.renaming.specs.Order.{order_in, Sorted, order_sorts}
-use Rattle.renaming.specs.Windows.{Elsewhere, elsewhere_then, elsewhere_table}
-use Rattle.renaming.specs.Table.{Through}
-use Rattle.filing.specs.Front.{map_front}
 use Rattle.filing.specs.File.{Files, refile_in, refact_in, Refiled, Refacted}
 use Rattle.joining.specs.Lent.{lent}
+use Rattle.joining.specs.Windows.{Elsewhere, elsewhere_then, elsewhere_table, Through}
 
 pub record JoinedKeys (s l n top : ℕ) (t : List ℕ) (count up : ℕ) (t' : List ℕ) : Type 0 where
   pub made : ◌≡◌ {A = Files} (take count t', drop up t') (refile_in (order_in (map (replaced s l) (take n t))) ([], map (replaced s l) (drop top t)))
@@ -27,19 +25,12 @@ pub record JoinedFacts (s l at n spare : ℕ) (w : List ℕ) (count : ℕ) (w' :
   pub fewer : count ≤ n
   pub elsewhere : Elsewhere at spare n w w'
 
-module _ (f : ℕ → ℕ) where
-  -- A front that is all.
-  pub front_all : (k : ℕ) (t : List ℕ) → length t ≡ k → map_front f k t ≡ map f t
-  unfolding map_front
-  front_all k t e =
-      ap₂ (λ (x y : List ℕ). map f x ++ y) (take_all k t (omega arith)) (drop_of_length-le t {i = k} (omega arith)) ∙ append-nil (map f t)
-
 module _ (s l n top k : ℕ) (t t₁ : List ℕ) (room : n + n ≤ top) (fits : top ≤ length t) (whole : top + k ≡ length t) (r : Through (replaced s l) 0 n n t t₁) where
   abbrev f : ℕ → ℕ
   f = replaced s l
 
   abbrev t₂ : List ℕ
-  t₂ = put_mid top k t₁ (map_front f k (take k (drop top t₁)))
+  t₂ = put_mid top k t₁ (map f (take k (drop top t₁)))
 
   size₁ : length t₁ ≡ length t
   size₁ = r.elsewhere.size
@@ -63,16 +54,16 @@ module _ (s l n top k : ℕ) (t t₁ : List ℕ) (room : n + n ≤ top) (fits : 
       let d : length (drop top t₁) ≡ k = length-drop top t₁ ∙ (omega (arith, size₁)) in
       let a : take k (drop top t₁) ≡ drop top t₁ = take_all k (drop top t₁) (omega arith) in
       drop_at (take top t₁) _ top (length-take-le top t₁ (omega (arith, size₁)))
-      ∙ ap₂ (λ (x y : List ℕ). x ++ y) (ap (map_front f k) a ∙ front_all f k (drop top t₁) d) (drop_of_length-le (drop top t₁) {i = k} (omega arith))
+      ∙ ap₂ (λ (x y : List ℕ). x ++ y) (ap (map f) a) (drop_of_length-le (drop top t₁) {i = k} (omega arith))
       ∙ append-nil (map f (drop top t₁))
       ∙ ap (map f) behind
 
   -- What was renamed in front is in order when it is filed.
-  pub keys_sorted : (u : List ℕ) → u ≡ map_front f k (take k (drop top t₁)) → Sorted (take n (put_mid top k t₁ u))
+  pub keys_sorted : (u : List ℕ) → u ≡ map f (take k (drop top t₁)) → Sorted (take n (put_mid top k t₁ u))
   keys_sorted u e = subst (λ (z : List ℕ). Sorted (take n (put_mid top k t₁ z))) (sym e) (subst Sorted (sym keys₂) (order_sorts (map f (take n t))))
 
   -- Renamed and in order in front, renamed from top on, filed anew.
-  pub joined_keys : (u : List ℕ) → u ≡ map_front f k (take k (drop top t₁)) → (count up : ℕ) (t' : List ℕ)
+  pub joined_keys : (u : List ℕ) → u ≡ map f (take k (drop top t₁)) → (count up : ℕ) (t' : List ℕ)
       → Refiled n top (put_mid top k t₁ u) count up t' → JoinedKeys s l n top t count up t'
   joined_keys u e count up t' q =
       let z = subst (λ (v : List ℕ). Refiled n top (put_mid top k t₁ v) count up t') e q in
@@ -84,25 +75,25 @@ module _ (s l n top k : ℕ) (t t₁ : List ℕ) (room : n + n ≤ top) (fits : 
       }
 
 module _ (s l at n spare k : ℕ) (w w₁ : List ℕ) (whole : k ≡ n) (room : spare + n ≤ at) (fits : at + n ≤ length w) (r : Through (replaced s l) at n spare w w₁) where
-  facts : take n (take k (drop at w₁)) ≡ order_in (map (replaced s l) (part at n w))
+  facts : take k (drop at w₁) ≡ order_in (map (replaced s l) (part at n w))
   unfolding part
-  facts = ap (λ j. take n (take j (drop at w₁))) whole ∙ lib.Seq.take-take n n (drop at w₁) (omega arith) ∙ r.made
+  facts = ap (λ j. take j (drop at w₁)) whole ∙ r.made
 
-  pub facts_sorted : Sorted (take n (take k (drop at w₁)))
+  pub facts_sorted : Sorted (take k (drop at w₁))
   facts_sorted = subst Sorted (sym facts) (order_sorts (map (replaced s l) (part at n w)))
 
-  pub joined_facts : (count : ℕ) (u : List ℕ) → length u ≡ length (take k (drop at w₁)) → Refacted n (take k (drop at w₁)) count u → JoinedFacts s l at n spare w count (put_mid at k w₁ u)
+  pub joined_facts : (count : ℕ) (u : List ℕ) → length u ≡ length (take k (drop at w₁)) → Refacted (take k (drop at w₁)) count u → JoinedFacts s l at n spare w count (put_mid at k w₁ u)
   unfolding part
   joined_facts count u size q =
-      let j = lent (λ x y. take count y ≡ refact_in (take n x) []) at n k w₁ u whole (omega (arith, r.elsewhere.size)) size q.made in
+      let j = lent (λ x y. take count y ≡ refact_in x []) at n k w₁ u whole (omega (arith, r.elsewhere.size)) size q.made in
       record {
-        made = front count (put_mid at k w₁ u) q.fewer ∙ j.made ∙ ap (λ (x : List ℕ). refact_in x []) (same ∙ r.made);
-        fewer = q.fewer;
+        made = front count (put_mid at k w₁ u) fewer ∙ j.made ∙ ap (λ (x : List ℕ). refact_in x []) r.made;
+        fewer = fewer;
         elsewhere = elsewhere_then r.elsewhere (elsewhere_table j.kept);
       }
     where
       front : (c : ℕ) (v : List ℕ) → c ≤ n → part at c v ≡ take c (part at n v)
       front c v h = sym (lib.Seq.take-take c n (drop at v) h)
 
-      same : take n (part at n w₁) ≡ part at n w₁
-      same = lib.Seq.take-take n n (drop at w₁) (omega arith)
+      fewer : count ≤ n
+      fewer = omega (arith, q.fewer, whole, length-take k (drop at w₁))

@@ -2,4 +2,5 @@
 pub mod Work
 pub mod Carry
 pub mod Lent
+pub mod Windows
 pub mod Leaf

@@ -3,7 +3,7 @@
 // become equal one stays, and their values are one more pair.
 #![tactic(auto)]
 
-ghost use Rattle.std.specs.Prelude.{◌≡◌, ◌+◌, ◌≤◌, ◌<◌, min, length, get_or, take, set};
+ghost use Rattle.std.specs.Prelude.{◌≡◌, ◌+◌, ◌≤◌, ◌<◌, length, get_or, take, set};
 ghost use Rattle.rules.specs.Image.{part};
 ghost use Rattle.rules.specs.Merge.{merge_depths};
 ghost use Rattle.renaming.specs.Order.{Sorted};
@@ -16,9 +16,9 @@ pub fn join_keys(t: &mut [u64], n: usize, top: usize, s: u64, l: u64) -> Ends
     requires { (n + n ≤ top) × ((top ≤ length t.old) × ((s < l) × ((s < 256) × Sorted (take n t.old)))) }
     ensures { JoinedKeys s l n top t.old result.count result.top t.new }
 {
-    let e = t.len();
-    renaming::rename_table(t, 0, n, n, s, l);
-    filing::rename_all(&mut t[top..e], e - top, s, l);
+    let (table, rest) = t.split_at_mut(n);
+    renaming::rename_table(table, &mut rest[..n], s, l);
+    filing::rename_all(&mut t[top..], s, l);
     filing::refile(t, n, top)
 }
 
@@ -27,19 +27,19 @@ pub fn join_facts(w: &mut [u64], at: usize, n: usize, spare: usize, s: u64, l: u
     requires { (spare + n ≤ at) × ((at + n ≤ length w.old) × ((s < l) × ((s < 256) × Sorted (part at n w.old)))) }
     ensures { JoinedFacts s l at n spare w.old result w.new }
 {
-    renaming::rename_table(w, at, n, spare, s, l);
-    let e = at + n;
-    filing::refact(&mut w[at..e], n)
+    let (front, back) = w.split_at_mut(at);
+    renaming::rename_table(&mut back[..n], &mut front[spare..spare + n], s, l);
+    filing::refact(&mut w[at..at + n])
 }
 
 // The entry at a place; behind the last, 0.
 fn entry(t: &[u64], i: u64) -> u64
     ensures { result ≡ get_or t.now i 0 }
 {
-    if i < t.len() as u64 { t[i as usize] } else { 0 }
+    t.get(i as usize).map_or(0, |x| *x)
 }
 
-// An entry put at a place, if there is such a place.
+// An entry put at a place, if there is such a place. By index, since nothing is known of a slice after its `get_mut`.
 fn set(t: &mut [u64], i: u64, v: u64)
     ensures { t.new ≡ set t.old i v }
 {
@@ -48,17 +48,11 @@ fn set(t: &mut [u64], i: u64, v: u64)
     }
 }
 
-fn smaller(a: u64, b: u64) -> u64
-    ensures { result ≡ min a b }
-{
-    if a < b { a } else { b }
-}
-
 // The smaller depth is kept for s, and l has none.
 pub fn join_depths(t: &mut [u64], s: u64, l: u64)
     ensures { t.new ≡ merge_depths s l t.old }
 {
-    let low = smaller(entry(t, s), entry(t, l));
+    let low = entry(t, s).min(entry(t, l));
     set(t, s, low);
     set(t, l, 0);
 }

@@ -2,7 +2,6 @@
 pub mod Text
 pub mod Printed
 pub mod Examples
-pub mod Wrote
 pub mod Numbers
 pub mod Writing
 pub mod Lines

@@ -1,126 +1,156 @@
-// lines: the listing's lines, written into a buffer from a place on; each answers the place behind what it wrote. What a line
-// says is defined in specs/Text.antt. Entries of a sheet are read in place, eight bytes each (docs/FORMAT.md).
+// lines: the listing's lines, written on a page behind what stands there. What a line says is defined in specs/Text.antt. Entries of a
+// sheet are slices of its bytes, eight each (docs/FORMAT.md).
 #![tactic(auto)]
 
-ghost use Rattle.std.specs.Prelude.{◌∷◌, [], ◌+◌, ◌*◌, ◌≤◌, ◌<◌, length, take, drop};
+ghost use Rattle.std.specs.Prelude.{◌≡◌, ℕ, ◌+◌, ◌*◌, ◌^◌, ◌≤◌, ◌<◌, List, [], ◌∷◌, ◌++◌, length, take};
 ghost use Rattle.rules.specs.Image.{args_in, key_in, fact_in};
-ghost use Rattle.lines.specs.Text.{decimal, fields, key_line, fact_line, depth_text, refusal};
-ghost use Rattle.lines.specs.Wrote.{Wrote};
+ghost use Rattle.lines.specs.Text.{fields, key_line, fact_line, depth_text, refusal};
 
-use words::byte;
+use std::marker::Model;
 
-// A number in decimal.
-fn number(out: &mut [u8], n: usize, x: u64) -> usize
-    requires { n + length (decimal x) ≤ length out.old }
-    ensures { Wrote out.old n (decimal x) out.new result }
-{
-    if x < 10 {
-        out[n] = (48 + x) as u8;
-        return n + 1;
+// The bytes of an entry of a sheet.
+pub const ENTRY: usize = 8;
+
+// The most bytes that a field takes, of a number of three digits and of ten.
+pub const FIELD: usize = 1 + 3;
+
+pub const WIDE_FIELD: usize = 1 + 10;
+
+// The most bytes that a line takes: its words, the line's end and its fields.
+pub const KEY_LINE: usize = 6 + 7 * FIELD;
+
+pub const FACT_LINE: usize = 5 + 5 * FIELD;
+
+pub const DEPTH_LINE: usize = 6 + 2 * FIELD;
+
+pub const REFUSAL: usize = 8 + WIDE_FIELD;
+
+// A text of at most N bytes, which clauses see as those written so far.
+#[derive(Drop)]
+pub struct Page<const N: usize> {
+    bytes: [u8; N],
+    len: usize,
+}
+
+impl<const N: usize> Model for Page<N> {
+    ghost Value = { List ℕ };
+
+    ghost view = { λ p. take p.len p.bytes };
+
+    ghost invariant = { λ p. p.len ≤ N };
+}
+
+impl<const N: usize> Page<N> {
+    pub fn new() -> Self
+        ensures { result ≡ [] }
+    {
+        Page {
+            bytes: [0; N],
+            len: 0,
+        }
     }
-    let m = number(out, n, x / 10);
-    out[m] = (48 + x % 10) as u8;
-    m + 1
-}
 
-// Bytes as they are.
-pub fn word(out: &mut [u8], n: usize, w: &[u8]) -> usize
-    requires { n + length w.now ≤ length out.old }
-    ensures { Wrote out.old n w.now out.new result }
-{
-    let mut i = 0;
-    while i < w.len() {
-        out[n + i] = w[i];
-        i += 1;
+    pub fn clear(&mut self)
+        ensures { self.new ≡ [] }
+    {
+        self.len = 0;
     }
-    n + i
-}
 
-// A space and a number of at most three digits.
-pub fn field(out: &mut [u8], n: usize, x: u64) -> usize
-    requires { (x < 1000) × (n + 4 ≤ length out.old) }
-    ensures { Wrote out.old n (fields (x ∷ [])) out.new result × (result ≤ n + 4) }
-{
-    out[n] = 32;
-    number(out, n + 1, x)
-}
-
-// A space and a number of at most ten digits.
-pub fn wide_field(out: &mut [u8], n: usize, x: u64) -> usize
-    requires { (x < 10000000000) × (n + 11 ≤ length out.old) }
-    ensures { Wrote out.old n (fields (x ∷ [])) out.new result × (result ≤ n + 11) }
-{
-    out[n] = 32;
-    number(out, n + 1, x)
-}
-
-// A field for each of some bytes.
-fn row(s: &[u8], at: usize, count: usize, out: &mut [u8], n: usize) -> usize
-    requires { (at + count ≤ length s.now) × (n + 4 * count ≤ length out.old) }
-    ensures { Wrote out.old n (fields (take count (drop at s.now))) out.new result × (result ≤ n + 4 * count) }
-{
-    let mut m = n;
-    let mut i = 0;
-    while i < count {
-        m = field(out, m, byte(s, at + i));
-        i += 1;
+    pub fn text(&self) -> &[u8]
+        ensures { result.now ≡ self.now }
+    {
+        &self.bytes[..self.len]
     }
-    m
-}
 
-// The arguments of the entry at a place: as many as it counts, of the four that there are.
-fn arguments(s: &[u8], at: usize, out: &mut [u8], n: usize) -> usize
-    requires { (at + 8 ≤ length s.now) × (n + 16 ≤ length out.old) }
-    ensures { Wrote out.old n (fields (args_in (take 8 (drop at s.now)))) out.new result × (result ≤ n + 16) }
-{
-    let count = byte(s, at + 2) as usize;
-    if count > 4 {
-        return row(s, at + 3, 4, out, n);
+    // Bytes as they are.
+    pub fn word(&mut self, w: &[u8])
+        requires { length self.old + length w.now ≤ N }
+        ensures { self.new ≡ self.old ++ w.now }
+    {
+        let start = self.len;
+        let end = start + w.len();
+        let bytes = &mut self.bytes[..];
+        bytes[start..end].copy_from_slice(w);
+        self.len = end;
     }
-    row(s, at + 3, count, out, n)
+
+    // A space and a number in decimal, of at most so many digits.
+    pub fn field<const DIGITS: usize>(&mut self, x: u64)
+        requires { (0 < DIGITS) × (x < 10 ^ DIGITS) × (length self.old + DIGITS + 1 ≤ N) }
+        ensures text { self.new ≡ self.old ++ fields (x ∷ []) }
+        ensures short { length self.new ≤ length self.old + DIGITS + 1 }
+    {
+        self.word(b" ");
+        self.word(itoa::Buffer::new().format(x).as_bytes());
+    }
+
+    // A field for each of some bytes.
+    fn row(&mut self, s: &[u8])
+        requires { length self.old + FIELD * length s.now ≤ N }
+        ensures text { self.new ≡ self.old ++ fields s.now }
+        ensures short { length self.new ≤ length self.old + FIELD * length s.now }
+    {
+        for b in s {
+            self.field::<3>(*b as u64);
+        }
+    }
+
+    // The line of a key.
+    pub fn key_line(&mut self, entry: &[u8])
+        requires { (length entry.now ≡ ENTRY) × (length self.old + KEY_LINE ≤ N) }
+        ensures text { self.new ≡ self.old ++ key_line (key_in entry.now) }
+        ensures short { length self.new ≤ length self.old + KEY_LINE }
+    {
+        self.word(b"key");
+        self.row(&entry[..2]);
+        self.row(arguments(entry));
+        self.word(b" =");
+        self.row(&entry[7..]);
+        self.word(b"\n");
+    }
+
+    // The line of a fact.
+    pub fn fact_line(&mut self, entry: &[u8])
+        requires { (length entry.now ≡ ENTRY) × (length self.old + FACT_LINE ≤ N) }
+        ensures text { self.new ≡ self.old ++ fact_line (fact_in entry.now) }
+        ensures short { length self.new ≤ length self.old + FACT_LINE }
+    {
+        self.word(b"fact");
+        self.row(&entry[1..2]);
+        self.row(arguments(entry));
+        self.word(b"\n");
+    }
+
+    // The line of an element and its depth.
+    pub fn depth_line(&mut self, element: u64, depth: u64)
+        requires { (element < 1000) × (depth < 1000) × (length self.old + DEPTH_LINE ≤ N) }
+        ensures text { self.new ≡ self.old ++ depth_text element depth }
+        ensures short { length self.new ≤ length self.old + DEPTH_LINE }
+    {
+        self.word(b"depth");
+        self.field::<3>(element);
+        self.field::<3>(depth);
+        self.word(b"\n");
+    }
+
+    // The line of a refusal.
+    pub fn refusal(&mut self, x: u64)
+        requires { (x < 10 ^ 10) × (length self.old + REFUSAL ≤ N) }
+        ensures text { self.new ≡ self.old ++ refusal x }
+        ensures short { length self.new ≤ length self.old + REFUSAL }
+    {
+        self.word(b"refused");
+        self.field::<10>(x);
+        self.word(b"\n");
+    }
 }
 
-// The line of the key at a place.
-pub fn key_line(s: &[u8], at: usize, out: &mut [u8], n: usize) -> usize
-    requires { (at + 8 ≤ length s.now) × (n + 34 ≤ length out.old) }
-    ensures { Wrote out.old n (key_line (key_in (take 8 (drop at s.now)))) out.new result × (result ≤ n + 34) }
+// The arguments of an entry: as many as it counts, of the four that there are.
+fn arguments(entry: &[u8]) -> &[u8]
+    requires { length entry.now ≡ ENTRY }
+    ensures value { result.now ≡ args_in entry.now }
+    ensures few { length result.now ≤ 4 }
 {
-    let a = word(out, n, b"key");
-    let b = row(s, at, 2, out, a);
-    let c = arguments(s, at, out, b);
-    let d = word(out, c, b" =");
-    let e = row(s, at + 7, 1, out, d);
-    word(out, e, b"\n")
-}
-
-// The line of the fact at a place.
-pub fn fact_line(s: &[u8], at: usize, out: &mut [u8], n: usize) -> usize
-    requires { (at + 8 ≤ length s.now) × (n + 25 ≤ length out.old) }
-    ensures { Wrote out.old n (fact_line (fact_in (take 8 (drop at s.now)))) out.new result × (result ≤ n + 25) }
-{
-    let a = word(out, n, b"fact");
-    let b = row(s, at + 1, 1, out, a);
-    let c = arguments(s, at, out, b);
-    word(out, c, b"\n")
-}
-
-// The line of an element and its depth.
-pub fn depth_line(out: &mut [u8], n: usize, element: u64, depth: u64) -> usize
-    requires { ((element < 1000) × (depth < 1000)) × (n + 14 ≤ length out.old) }
-    ensures { Wrote out.old n (depth_text element depth) out.new result × (result ≤ n + 14) }
-{
-    let a = word(out, n, b"depth");
-    let b = field(out, a, element);
-    let c = field(out, b, depth);
-    word(out, c, b"\n")
-}
-
-// The line of a refusal.
-pub fn refusal(out: &mut [u8], n: usize, x: u64) -> usize
-    requires { (x < 10000000000) × (n + 19 ≤ length out.old) }
-    ensures { Wrote out.old n (refusal x) out.new result × (result ≤ n + 19) }
-{
-    let a = word(out, n, b"refused");
-    let b = wide_field(out, a, x);
-    word(out, b, b"\n")
+    let count = (entry[2] as usize).min(4);
+    &entry[3..3 + count]
 }

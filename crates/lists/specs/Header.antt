@@ -1,8 +1,9 @@
 -- What a header says: its lists, its next number, and which slots no list names.
 use Rattle.std.specs.Prelude.{◌≡◌, refl, ℕ, suc, ◌+◌, ◌-◌, ◌≤◌, ◌<◌, min, Bool, true, false, not, ◌||◌, List, [], ◌∷◌, ◌++◌, length, get_or, take, drop, T, eqb}
-use Rattle.std.proofs.Common.{sym, ap₂, ◌∙◌, subst, arith, add-one, length-drop, take-take, take_all, length-take-le}
+use Rattle.std.proofs.Common.{sym, ◌∙◌, subst, arith, add-one, length-drop, take-take, take_all, length-take-le}
 use Rattle.std.proofs.Math.Path.{ap}
 use Rattle.std.proofs.Math.Decide.{dec_le}
+use Rattle.std.specs.List.{list_any}
 use Rattle.base.specs.Branch.{if}
 use Rattle.base.specs.Lists.{mem, keep, from}
 use Rattle.rules.specs.Reading.{Bytes}
@@ -23,6 +24,12 @@ used_in lim p = refl
 pub next_in_lem : (lim : Limits) (p : Bytes) → next_of p ≡ (pool_in lim p).next
 unfolding next_of pool_in
 next_in_lem lim p = refl
+
+-- A number is one of a list.
+pub any_mem : (i : ℕ) (xs : List ℕ) → list_any (eqb i) xs ≡ mem i xs
+unfolding mem
+any_mem i [] = refl
+any_mem i (x ∷ xs) = ap (λ b. eqb i x || b) (any_mem i xs)
 
 -- A list is the front of its room.
 pub list_front : (at n : ℕ) (p : Bytes) → at + 64 ≤ length p → take (min n 64) (drop at p) ≡ list_in at n p
@@ -98,15 +105,6 @@ module _ (p : Bytes) (i : ℕ) where
   abbrev in_one : ℕ → ℕ → Bool
   in_one at count = mem i (list_in at (get_or p count 0) p)
 
-  three : mem i (in_use p) ≡ in_one 16 12 || (in_one 80 13 || in_one 144 14)
+  pub three : mem i (in_use p) ≡ in_one 16 12 || (in_one 80 13 || in_one 144 14)
   unfolding in_use
   three = mem_append i (list_in 16 (get_or p 12 0) p) _ ∙ ap (λ b. in_one 16 12 || b) (mem_append i (list_in 80 (get_or p 13 0) p) (list_in 144 (get_or p 14 0) p))
-
-  pub used_first : true ≡ in_one 16 12 → true ≡ mem i (in_use p)
-  used_first e = sym (three ∙ ap (λ b. b || (in_one 80 13 || in_one 144 14)) (sym e))
-
-  pub used_second : false ≡ in_one 16 12 → true ≡ in_one 80 13 → true ≡ mem i (in_use p)
-  used_second e f = sym (three ∙ ap₂ (λ b c. b || (c || in_one 144 14)) (sym e) (sym f))
-
-  pub used_third : false ≡ in_one 16 12 → false ≡ in_one 80 13 → in_one 144 14 ≡ mem i (in_use p)
-  used_third e f = sym (three ∙ ap₂ (λ b c. b || (c || in_one 144 14)) (sym e) (sym f))

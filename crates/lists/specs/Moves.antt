@@ -2,7 +2,7 @@
 use Rattle.std.specs.Prelude.{◌≡◌, Bool, true, false, not, List, [], ◌∷◌, ◌++◌, length, get_or, set}
 use Rattle.std.proofs.Math.Path.{refl, ap, ap₂}
 use Rattle.std.proofs.Common.{sym, ◌∙◌, subst, arith, append-nil}
-use Prim.Native.Nat.{ℕ, zero, suc, ◌+◌, ◌*◌, ◌/◌, ◌%◌, ◌≤◌, ◌<◌}
+use Prim.Native.Nat.{ℕ, ◌+◌, ◌*◌, ◌/◌, ◌%◌, ◌≤◌, ◌<◌}
 use Rattle.base.specs.Lists.{All, mem, keep, from}
 use Rattle.rules.specs.Reading.{Bytes, num}
 use Rattle.rules.specs.Sheet.{Limits}
@@ -117,25 +117,17 @@ module _ (i : ℕ) (p p' : Bytes) where
       push lim s (few lim s p sh) sh.is o r.1
       ∙ ap (λ ws. pool_bytes lim (changed s s.next ws s.complete (s.bounded ++ (i ∷ [])) s.slots)) (scheduled_none (scheduler_of s.scheduler) s.waiting)
 
-  pub enlist_fifo : get_or p 5 0 ≡ 0 → PushedBack 0 i p p' → Enlisted i false p p'
-  unfolding schedule scheduler_of
+  pub enlist_fifo : fifo ≡ scheduler_of (get_or p 5 0) → PushedBack 0 i p p' → Enlisted i false p p'
+  unfolding schedule
   enlist_fifo z push lim s sh o r =
       push lim s (few lim s p sh) sh.is o r.0
-      ∙ ap₂ (λ ws bs. pool_bytes lim (changed s s.next ws s.complete bs s.slots)) (go s.scheduler (sym (scheduler_is lim s p sh) ∙ z)) (sym (append-nil s.bounded))
-    where
-      go : (n : ℕ) → n ≡ 0 → s.waiting ++ (i ∷ []) ≡ schedule (scheduler_of n) (i ∷ []) s.waiting
-      go zero e = refl
-      go (suc n) e = absurd (omega arith)
+      ∙ ap₂ (λ ws bs. pool_bytes lim (changed s s.next ws s.complete bs s.slots)) (ap (λ sc. schedule sc (i ∷ []) s.waiting) (z ∙ ap scheduler_of (scheduler_is lim s p sh))) (sym (append-nil s.bounded))
 
-  pub enlist_lifo : (get_or p 5 0 ≡ 0 → ⊥) → PushedFront 0 i p p' → Enlisted i false p p'
-  unfolding schedule scheduler_of pushed
+  pub enlist_lifo : lifo ≡ scheduler_of (get_or p 5 0) → PushedFront 0 i p p' → Enlisted i false p p'
+  unfolding schedule pushed
   enlist_lifo z push lim s sh o r =
       push lim s (few lim s p sh) sh.is o r.0
-      ∙ ap₂ (λ ws bs. pool_bytes lim (changed s s.next ws s.complete bs s.slots)) (go s.scheduler (λ e. z (scheduler_is lim s p sh ∙ e))) (sym (append-nil s.bounded))
-    where
-      go : (n : ℕ) → (n ≡ 0 → ⊥) → i ∷ s.waiting ≡ schedule (scheduler_of n) (i ∷ []) s.waiting
-      go zero e = absurd (e refl)
-      go (suc n) e = refl
+      ∙ ap₂ (λ ws bs. pool_bytes lim (changed s s.next ws s.complete bs s.slots)) (ap (λ sc. schedule sc (i ∷ []) s.waiting) (z ∙ ap scheduler_of (scheduler_is lim s p sh))) (sym (append-nil s.bounded))
 
 pub joined : (i : ℕ) (cut : Bool) (p p₁ p₂ : Bytes) → Enlisted i cut p p₁ → CountedOn p₁ p₂ → Joined i cut p p₂
 unfolding changed

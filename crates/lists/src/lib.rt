@@ -2,68 +2,57 @@
 // or to be given up; a child's slot joins, open or bounded. And the lowest slot that no list names.
 #![tactic(auto)]
 
-ghost use Rattle.std.specs.Prelude.{◌≡◌, ◌+◌, ◌≤◌, ◌<◌, min, length, get_or};
+ghost use Rattle.std.specs.Prelude.{◌≡◌, ◌+◌, ◌*◌, ◌≤◌, ◌<◌, min, length, get_or, MatchOption};
 ghost use Rattle.base.specs.Lists.{mem};
 ghost use Rattle.rules.specs.Image.{list_in};
+ghost use Rattle.heads.specs.Numbers.{number_of};
 ghost use Rattle.lists.specs.Header.{in_use, LowestFree};
 ghost use Rattle.lists.specs.Moves.{CountedOn, Finished, Forgotten, Enlisted, Joined};
 
-use heads::{pop, push_back, push_front};
-use octets::byte;
+use heads::{SlotList, pop, push_back, push_front};
 use poolparts::next_number;
+use settings::Scheduler;
+use words::byte;
 
 // How many slots the list with its count at a place has: what is counted, or its room if that is less.
 fn list_length(p: &[u8], count: usize) -> usize
     ensures { (result ≡ min (get_or p.now count 0) 64) × (result ≤ 64) }
 {
-    let n = byte(p, count) as usize;
-    if n < 64 { n } else { 64 }
+    (byte(p, count) as usize).min(64)
 }
 
-// Is slot i in the list at a place?
-fn in_list(p: &[u8], at: usize, count: usize, i: usize) -> bool
-    requires { at + 64 ≤ length p.now }
-    ensures { result ≡ mem i (list_in at (get_or p.now count 0) p.now) }
+// Is slot i in a list?
+fn in_list(p: &[u8], list: SlotList, i: usize) -> bool
+    requires { 208 ≤ length p.now }
+    ensures { result ≡ mem i (list_in (16 + 64 * number_of list) (get_or p.now (12 + number_of list) 0) p.now) }
 {
-    let n = list_length(p, count);
-    let mut j = 0;
-    while j < n {
-        if p[at + j] as usize == i {
-            return true;
-        }
-        j += 1;
-    }
-    false
+    let at = list.starts_at();
+    let n = list_length(p, list.counted_at());
+    p[at..at + n].iter().any(|x| i == *x as usize)
 }
 
 // Does a list name slot i?
+#[tactic(auto, using(crate::specs::Header::three))]
 fn in_use(p: &[u8], i: usize) -> bool
     requires { 208 ≤ length p.now }
     ensures { result ≡ mem i (in_use p.now) }
 {
-    if in_list(p, 16, 12, i) {
-        return true;
-    }
-    if in_list(p, 80, 13, i) {
-        return true;
-    }
-    in_list(p, 144, 14, i)
+    in_list(p, SlotList::Waiting, i)
+        || in_list(p, SlotList::Complete, i)
+        || in_list(p, SlotList::Bounded, i)
 }
 
-// The lowest of n slots that no list names; n if there is none.
-pub fn lowest_free(p: &[u8], n: usize) -> usize
+// The lowest of n slots that no list names, if there is one.
+pub fn lowest_free(p: &[u8], n: usize) -> Option<usize>
     requires { 208 ≤ length p.now }
-    ensures { (result ≤ n) × LowestFree p.now n result }
+    ensures { MatchOption result (LowestFree p.now n n) (λ i. (i < n) × LowestFree p.now n i) }
 {
-    let mut i = 0;
-    while i < n {
-        if in_use(p, i) {
-            i += 1;
-        } else {
-            return i;
+    for i in 0..n {
+        if !in_use(p, i) {
+            return Some(i);
         }
     }
-    n
+    None
 }
 
 // The next model number is one more.
@@ -86,8 +75,8 @@ pub fn finish(pool: &mut [u8])
     ensures { Finished pool.old pool.new }
 {
     let slot = byte(pool, 16);
-    pop(pool, 0);
-    push_back(pool, 1, slot);
+    pop(pool, SlotList::Waiting);
+    push_back(pool, SlotList::Complete, slot);
 }
 
 // The first waiting slot goes.
@@ -95,7 +84,7 @@ pub fn forget(pool: &mut [u8])
     requires { 208 ≤ length pool.old }
     ensures { Forgotten pool.old pool.new }
 {
-    pop(pool, 0);
+    pop(pool, SlotList::Waiting);
 }
 
 // The slot of a child joins the bounded ones, or the waiting ones where the scheduler says.
@@ -104,14 +93,13 @@ fn enlist(pool: &mut [u8], slot: u64, cut: bool)
     ensures { Enlisted slot cut pool.old pool.new }
 {
     if cut {
-        push_back(pool, 2, slot);
+        push_back(pool, SlotList::Bounded, slot);
         return;
     }
-    if byte(pool, 5) == 0 {
-        push_back(pool, 0, slot);
-        return;
+    match Scheduler::of_byte(byte(pool, 5)) {
+        Scheduler::Fifo => push_back(pool, SlotList::Waiting, slot),
+        Scheduler::Lifo => push_front(pool, SlotList::Waiting, slot),
     }
-    push_front(pool, 0, slot);
 }
 
 // The slot of a child joins, and the next number is one more.

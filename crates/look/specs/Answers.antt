@@ -1,68 +1,54 @@
 -- What the answers of lookup say: for whatever term stands at the place, the answer is the definition's.
-use Rattle.std.specs.Prelude.{◌≡◌, ℕ, ◌+◌, ◌-◌, ◌≤◌, ◌<◌, Bool, List, length, get_or, take}
+use Rattle.std.specs.Prelude.{◌≡◌, ℕ, ◌+◌, ◌-◌, ◌≤◌, ◌<◌, Bool, List, length, get_or, Some, None, IfSome}
+use Rattle.std.specs.Prelude as std
 use Rattle.std.proofs.Math.Option.{Option, none, some}
 use Rattle.rules.specs.Book.{Term, app, Terms, Literal, Names}
 use Rattle.rules.specs.Reading.{Bytes}
 use Rattle.rules.specs.Sheet.{Model}
 use Rattle.rules.specs.Look.{Meaning, nobody, look_meaning, look, looks, observed}
 use Rattle.soundness.specs.Book.{WfTerm, WfTerms, WfLiteral}
-use Rattle.tables.specs.Table.{Rising, or_none}
+use Rattle.tables.specs.Table.{option_of}
 use Rattle.texts.specs.Names.{names_in}
 use Rattle.texts.specs.Text.{count, TermText, TermsText, LiteralText}
-use Rattle.look.specs.declared.Look.{Look}
-use Rattle.look.specs.declared.Look.TheVariants.{Elem}
-use Rattle.look.specs.declared.Args.{Args}
-use Rattle.look.specs.declared.Args.TheVariants.{Packed}
 use Rattle.look.specs.declared.Head.{Head}
-use Rattle.look.specs.declared.Head.TheVariants.{Short, Leaf, Apply}
+use Rattle.look.specs.declared.Head.TheVariants.{Leaf, Apply}
 use Rattle.look.specs.Shown.{Shown, FactsShown, Means}
 use Rattle.look.specs.Digits.{pack_args}
 
--- ---- what is asked of the tables, whatever they show
-
-pub record Ready (env : List ℕ) (ne : ℕ) (keys : List ℕ) (nk : ℕ) (dom : List ℕ) (nd : ℕ) : Type 0 where
-  pub env_room : ne ≤ length env
-  pub key_room : nk ≤ length keys
-  pub rising : Rising (take nk keys)
-  pub dom_room : nd ≤ length dom
-
-pub record FactsReady (facts : List ℕ) (nf : ℕ) : Type 0 where
-  pub fact_room : nf ≤ length facts
-  pub rising : Rising (take nf facts)
-
 -- ---- answers
 
-abbrev pub as_look : Option ℕ → ℕ → Look
-as_look none e = Look.Missing
-as_look (some v) e = Elem v e
+-- A value with the place behind its text, if there is one.
+abbrev pub as_look : Option ℕ → ℕ → std.Option (ℕ × ℕ)
+as_look none e = None
+as_look (some v) e = Some (v, e)
 
-abbrev pub as_args : ℕ → ℕ → Option (List ℕ) → ℕ → Args
-as_args acc w none e = Args.Missing
-as_args acc w (some xs) e = Packed (pack_args acc w xs) e
-
-abbrev pub Found : ℕ → ℕ → Look → Type 0
-Found v e Look.Missing = 256 ≤ v
-Found v e (Elem x g) = (v < 256) × ((x ≡ v) × (g ≡ e))
+abbrev pub as_args : ℕ → ℕ → Option (List ℕ) → ℕ → std.Option (ℕ × ℕ)
+as_args acc w none e = None
+as_args acc w (some xs) e = Some (pack_args acc w xs, e)
 
 -- Whatever the text: the next place is further on, and within it.
-abbrev pub LookGood : ℕ → ℕ → Look → Type 0
-LookGood len at Look.Missing = Unit
-LookGood len at (Elem v e) = (v < 256) × ((at < e) × (e ≤ len))
+abbrev pub LookGood : ℕ → ℕ → std.Option (ℕ × ℕ) → Type 0
+LookGood len at None = Unit
+LookGood len at (Some r) = (r.0 < 256) × ((at < r.1) × (r.1 ≤ len))
 
-abbrev pub ArgsGood : ℕ → ℕ → Args → Type 0
-ArgsGood len at Args.Missing = Unit
-ArgsGood len at (Packed p e) = (at ≤ e) × (e ≤ len)
+abbrev pub ArgsGood : ℕ → ℕ → std.Option (ℕ × ℕ) → Type 0
+ArgsGood len at None = Unit
+ArgsGood len at (Some r) = (at ≤ r.1) × (r.1 ≤ len)
 
-abbrev pub HeadGood : ℕ → ℕ → Head → Type 0
-HeadGood len at Short = Unit
-HeadGood len at (Leaf v) = at + 4 ≤ len
-HeadGood len at (Apply f n) = (at + 4 ≤ len) × ((f < 65536) × (n < 65536))
+-- A value is an element.
+abbrev pub Octets : std.Option ℕ → Type 0
+Octets r = IfSome r (λ v. v < 256)
+
+abbrev pub HeadGood : ℕ → ℕ → std.Option (Head (std.Option ℕ)) → Type 0
+HeadGood len at None = Unit
+HeadGood len at (Some (Leaf v)) = (at + 4 ≤ len) × Octets v
+HeadGood len at (Some (Apply f n)) = (at + 4 ≤ len) × ((f < 65536) × (n < 65536))
 
 -- ---- what they are, for any model that is shown and any meanings
 
-abbrev pub IsVariable : List ℕ → ℕ → List ℕ → List ℕ → ℕ → Type 0
+abbrev pub IsVariable : List ℕ → ℕ → List ℕ → List ℕ → std.Option ℕ → Type 0
 IsVariable env i keys dom r = (d : Names) (m : Model) (ms : List Meaning) → Shown d m keys dom → Means d env ms → i < length ms
-    → r ≡ or_none (look_meaning m (get_or ms i nobody))
+    → r ≡ option_of (look_meaning m (get_or ms i nobody))
 
 -- A model, meanings and a term that stands there.
 pub record At (book text : Bytes) (at : ℕ) (env keys dom : List ℕ) (m : Model) (ms : List Meaning) (t : Term) (e : ℕ) : Type 0 where
@@ -80,10 +66,10 @@ pub record Ats (book text : Bytes) (at n : ℕ) (env keys dom : List ℕ) (m : M
   pub counted : count ts ≡ n
   pub fits : e ≤ length text
 
-abbrev pub IsLook : Bytes → Bytes → ℕ → List ℕ → List ℕ → List ℕ → Look → Type 0
+abbrev pub IsLook : Bytes → Bytes → ℕ → List ℕ → List ℕ → List ℕ → std.Option (ℕ × ℕ) → Type 0
 IsLook book text at env keys dom r = (m : Model) (ms : List Meaning) (t : Term) (e : ℕ) → At book text at env keys dom m ms t e → r ≡ as_look (look t m ms) e
 
-abbrev pub IsArgs : Bytes → Bytes → ℕ → ℕ → ℕ → ℕ → List ℕ → List ℕ → List ℕ → Args → Type 0
+abbrev pub IsArgs : Bytes → Bytes → ℕ → ℕ → ℕ → ℕ → List ℕ → List ℕ → List ℕ → std.Option (ℕ × ℕ) → Type 0
 IsArgs book text at n acc w env keys dom r =
     (m : Model) (ms : List Meaning) (ts : Terms) (e : ℕ) → Ats book text at n env keys dom m ms ts e → r ≡ as_args acc w (looks ts m ms) e
 
@@ -93,10 +79,10 @@ pub record Applies (book text : Bytes) (at : ℕ) (env keys dom : List ℕ) (m :
   pub is : t ≡ app f terms
   pub ats : Ats book text (at + 4) n env keys dom m ms terms e
 
-abbrev pub HeadIs : Bytes → Bytes → ℕ → List ℕ → List ℕ → List ℕ → Head → Type 0
-HeadIs book text at env keys dom Short = length text - at < 4
-HeadIs book text at env keys dom (Leaf v) = (m : Model) (ms : List Meaning) (t : Term) (e : ℕ) → At book text at env keys dom m ms t e → (v ≡ or_none (look t m ms)) × (e ≡ at + 4)
-HeadIs book text at env keys dom (Apply f n) = (m : Model) (ms : List Meaning) (t : Term) (e : ℕ) → At book text at env keys dom m ms t e → Applies book text at env keys dom m ms t e f n
+abbrev pub HeadIs : Bytes → Bytes → ℕ → List ℕ → List ℕ → List ℕ → std.Option (Head (std.Option ℕ)) → Type 0
+HeadIs book text at env keys dom None = length text - at < 4
+HeadIs book text at env keys dom (Some (Leaf v)) = (m : Model) (ms : List Meaning) (t : Term) (e : ℕ) → At book text at env keys dom m ms t e → (v ≡ option_of (look t m ms)) × (e ≡ at + 4)
+HeadIs book text at env keys dom (Some (Apply f n)) = (m : Model) (ms : List Meaning) (t : Term) (e : ℕ) → At book text at env keys dom m ms t e → Applies book text at env keys dom m ms t e f n
 
 -- ---- literals
 

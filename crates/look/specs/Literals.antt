@@ -1,5 +1,5 @@
 -- One law for each way out of the test whether a literal is observed.
-use Rattle.std.specs.Prelude.{◌≡◌, ℕ, ◌+◌, ◌-◌, ◌<◌, Bool, false, eqb}
+use Rattle.std.specs.Prelude.{◌≡◌, ℕ, ◌+◌, ◌-◌, ◌<◌, Bool, false, eqb, Some, None}
 use Rattle.std.proofs.Math.Path.{sym, ap, ap₂, subst}
 use Rattle.std.proofs.Common.{◌∙◌}
 use native.Mathlib.Omega.{arith}
@@ -19,10 +19,6 @@ use Rattle.tables.specs.Carry.{facts_hold_is}
 use Rattle.texts.specs.Names.{names_in}
 use Rattle.texts.specs.Text.{TermText, TermsText, LiteralText}
 use Rattle.texts.specs.Parts.{term_grows, terms_grow}
-use Rattle.look.specs.declared.Look.{Look}
-use Rattle.look.specs.declared.Look.TheVariants.{Elem}
-use Rattle.look.specs.declared.Args.{Args}
-use Rattle.look.specs.declared.Args.TheVariants.{Packed}
 use Rattle.look.specs.Shown.{fact_fits}
 use Rattle.look.specs.Digits.{start, top, pack_args, pack_args_lem}
 use Rattle.look.specs.Answers.{Ats, At, IsLook, IsArgs, LiteralAt, IsObserved}
@@ -55,14 +51,14 @@ module _ (book text : Bytes) (at : ℕ) (env keys facts dom : List ℕ) where
           },
         )
 
-    pub fact_missing : IsArgs book text (at + 4) n (start 0 k n) top env keys dom Args.Missing → num text at ≡ 0 → IsObserved book text at env keys facts dom false
+    pub fact_missing : IsArgs book text (at + 4) n (start 0 k n) top env keys dom None → num text at ≡ 0 → IsObserved book text at env keys facts dom false
     unfolding observed case_o LiteralText
     fact_missing i z m ms (same t u) e s = absurd (omega (arith, s.stands.0))
     fact_missing i z m ms (fact r ts) e s =
         let a = arguments m ms r ts e s in
         rw (args_none (start 0 k n) top (looks ts m ms) e (i m ms ts e a.1))
 
-    pub fact_held : (p b : ℕ) (r : Bool) → IsArgs book text (at + 4) n (start 0 k n) top env keys dom (Packed p b) → r ≡ is_some (look_in p facts)
+    pub fact_held : (p b : ℕ) (r : Bool) → IsArgs book text (at + 4) n (start 0 k n) top env keys dom (Some (p, b)) → r ≡ is_some (look_in p facts)
         → num text at ≡ 0 → IsObserved book text at env keys facts dom r
     unfolding observed case_o LiteralText
     fact_held p b r i q z m ms (same t u) e s = absurd (omega (arith, s.stands.0))
@@ -94,12 +90,12 @@ module _ (book text : Bytes) (at : ℕ) (env keys facts dom : List ℕ) where
       )
 
   module _ (no : num text at ≡ 0 → ⊥) where
-    pub same_left : IsLook book text (at + 2) env keys dom Look.Missing → IsObserved book text at env keys facts dom false
+    pub same_left : IsLook book text (at + 2) env keys dom None → IsObserved book text at env keys facts dom false
     unfolding observed case_o LiteralText
     same_left i m ms (fact r ts) e s = absurd (no s.stands.0)
     same_left i m ms (same t u) e s = let a = sides m ms t u e s in rw (look_none (look t m ms) a.0 (i m ms t a.0 a.1.0))
 
-    module _ (v b : ℕ) (i : IsLook book text (at + 2) env keys dom (Elem v b)) where
+    module _ (v b : ℕ) (i : IsLook book text (at + 2) env keys dom (Some (v, b))) where
       left : (m : Model) (ms : List Meaning) (t u : Term) (e : ℕ) → LiteralAt book text at env keys facts dom m ms (same t u) e
           → (look t m ms ≡ some v) × At book text b env keys dom m ms u e
       left m ms t u e s =
@@ -107,14 +103,14 @@ module _ (book text : Bytes) (at : ℕ) (env keys facts dom : List ℕ) where
           let k = look_some (look t m ms) v a.0 b (i m ms t a.0 a.1.0) in
           (k.0, subst (λ c. At book text c env keys dom m ms u e) k.1 a.1.1)
 
-      pub same_right : IsLook book text b env keys dom Look.Missing → IsObserved book text at env keys facts dom false
+      pub same_right : IsLook book text b env keys dom None → IsObserved book text at env keys facts dom false
       unfolding observed case_o LiteralText
       same_right j m ms (fact r ts) e s = absurd (no s.stands.0)
       same_right j m ms (same t u) e s =
           let a = left m ms t u e s in
           rw (a.0, look_none (look u m ms) e (j m ms u e a.1))
 
-      pub same_both : (w g : ℕ) → IsLook book text b env keys dom (Elem w g) → IsObserved book text at env keys facts dom (eqb v w)
+      pub same_both : (w g : ℕ) → IsLook book text b env keys dom (Some (w, g)) → IsObserved book text at env keys facts dom (eqb v w)
       unfolding observed case_o LiteralText
       same_both w g j m ms (fact r ts) e s = absurd (no s.stands.0)
       same_both w g j m ms (same t u) e s =

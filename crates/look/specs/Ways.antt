@@ -2,7 +2,9 @@
 use Rattle.std.proofs.Math.Path.{◌≡◌, refl, sym, ap, ap₂, subst}
 use Rattle.std.proofs.Common.{◌∙◌, arith}
 use Prim.Native.Nat.{ℕ, zero, suc, ◌+◌, ◌-◌, ◌*◌, ◌/◌, ◌≤◌, ◌<◌}
-use Rattle.std.specs.Prelude.{true, false}
+use Rattle.std.specs.Prelude.{true, false, Some, None}
+use Rattle.std.specs.Prelude as std
+use Rattle.std.proofs.lemmas.Option.{none-some, same_Some, some_pair_parts}
 use Rattle.std.proofs.Math.Option.{Option, none, some}
 use mathlib.Core.List.{List, [], ◌∷◌, map}
 use Rattle.std.proofs.Math.ListN.{length, get_or}
@@ -21,24 +23,20 @@ use Rattle.soundness.specs.Book.{WfTerm, WfTerms}
 use Rattle.soundness.specs.Book as sound
 use Rattle.images.specs.Storable.{Octet}
 use Rattle.packing.specs.Pack.{pack_key, Fits, arity_of}
-use Rattle.tables.specs.Table.{look_in, or_none}
+use Rattle.tables.specs.Table.{look_in, option_of}
 use Rattle.tables.specs.Carry.{find_is}
 use Rattle.texts.specs.Names.{names_in}
 use Rattle.texts.specs.Text.{count, TermText, TermsText}
 use Rattle.texts.specs.Parts.{term_grows, terms_grow}
-use Rattle.look.specs.declared.Look.{Look}
-use Rattle.look.specs.declared.Look.TheVariants.{Elem}
-use Rattle.look.specs.declared.Args.{Args}
-use Rattle.look.specs.declared.Args.TheVariants.{Packed}
 use Rattle.look.specs.declared.Head.TheVariants.{Leaf, Apply}
 use Rattle.look.specs.Shown.{Shown, Means, Plain, pack_meaning, declared_fits, find_octet, witness_look, witness_above}
 use Rattle.look.specs.Digits.{start, top, pack_args, pack_args_lem}
-use Rattle.look.specs.Answers.{as_look, as_args, Found, LookGood, ArgsGood, IsVariable, At, Ats, IsLook, IsArgs, HeadIs}
+use Rattle.look.specs.Answers.{as_look, as_args, IsVariable, At, Ats, IsLook, IsArgs, HeadIs}
 
 -- ---- a key's value by its number
 
-pub found_key : {d : Names} {m : Model} {keys dom : List ℕ} → Shown d m keys dom → (k : Key) → Fits (arity_of d) k → or_none (look_in (pack_key k) keys) ≡ or_none (find k m.keys)
-found_key {d} {m} s k p = ap (λ (xs : List ℕ). or_none (look_in (pack_key k) xs)) s.keys_are ∙ ap or_none (sym (find_is (arity_of d) k m.keys p s.keys_fit))
+pub found_key : {d : Names} {m : Model} {keys dom : List ℕ} → Shown d m keys dom → (k : Key) → Fits (arity_of d) k → option_of (look_in (pack_key k) keys) ≡ option_of (find k m.keys)
+found_key {d} {m} s k p = ap (λ (xs : List ℕ). option_of (look_in (pack_key k) xs)) s.keys_are ∙ ap option_of (sym (find_is (arity_of d) k m.keys p s.keys_fit))
 
 -- ---- variables
 
@@ -55,33 +53,33 @@ module _ (env : List ℕ) (i : ℕ) (keys dom : List ℕ) where
       at (x ∷ ms) zero h = refl
       at (x ∷ ms) (suc i) h = at ms i (omega arith)
 
-  pub variable_past : length env ≤ i → IsVariable env i keys dom 256
+  pub variable_past : length env ≤ i → IsVariable env i keys dom None
   variable_past h d m ms s e l = absurd (omega (arith, ap length e.are ∙ length-map ms pack_meaning))
 
   module _ (x : ℕ) (is : get_or env i 0 ≡ x) where
-    pub variable_witness : 256 ≤ x → (r : ℕ) → r ≡ or_none (look_in x keys) → IsVariable env i keys dom r
+    pub variable_witness : 256 ≤ x → (r : std.Option ℕ) → r ≡ option_of (look_in x keys) → IsVariable env i keys dom r
     unfolding pack_meaning Plain
     variable_witness h r e d m ms s n l = let p = meant d ms n l in go (get_or ms i nobody) (sym is ∙ p.0) p.1
       where
-        go : (μ : Meaning) → x ≡ pack_meaning μ → Plain d μ → r ≡ or_none (look_meaning m μ)
+        go : (μ : Meaning) → x ≡ pack_meaning μ → Plain d μ → r ≡ option_of (look_meaning m μ)
         go (elem y) q g = absurd (omega arith)
-        go (witness k) q g = e ∙ ap (λ z. or_none (look_in z keys)) q ∙ found_key s k g.0 ∙ ap or_none (sym (witness_look s k))
+        go (witness k) q g = e ∙ ap (λ z. option_of (look_in z keys)) q ∙ found_key s k g.0 ∙ ap option_of (sym (witness_look s k))
 
-    pub variable_element : x < 256 → (r : ℕ) → r ≡ or_none (if (mem x dom) (λ _. some x) (λ _. none)) → IsVariable env i keys dom r
+    pub variable_element : x < 256 → (r : std.Option ℕ) → r ≡ option_of (if (mem x dom) (λ _. some x) (λ _. none)) → IsVariable env i keys dom r
     unfolding pack_meaning Plain look_meaning known
     variable_element h r e d m ms s n l = let p = meant d ms n l in go (get_or ms i nobody) (sym is ∙ p.0) p.1
       where
-        go : (μ : Meaning) → x ≡ pack_meaning μ → Plain d μ → r ≡ or_none (look_meaning m μ)
-        go (elem y) q g = e ∙ ap₂ (λ (l : List ℕ) (z : ℕ). or_none (if (mem z l) (λ _. some z) (λ _. none))) s.domain_is q
+        go : (μ : Meaning) → x ≡ pack_meaning μ → Plain d μ → r ≡ option_of (look_meaning m μ)
+        go (elem y) q g = e ∙ ap₂ (λ (l : List ℕ) (z : ℕ). option_of (if (mem z l) (λ _. some z) (λ _. none))) s.domain_is q
         go (witness k) q g = absurd (omega (arith, witness_above k g.1))
 
-    pub variable_lives : x < 256 → true ≡ mem x dom → IsVariable env i keys dom x
-    unfolding or_none if
-    variable_lives h t = variable_element h x (ap (λ b. or_none (if b (λ _. some x) (λ _. none))) t)
+    pub variable_lives : x < 256 → true ≡ mem x dom → IsVariable env i keys dom (Some x)
+    unfolding if
+    variable_lives h t = variable_element h (Some x) (ap (λ b. option_of (if b (λ _. some x) (λ _. none))) t)
 
-    pub variable_gone : x < 256 → false ≡ mem x dom → IsVariable env i keys dom 256
-    unfolding or_none if
-    variable_gone h t = variable_element h 256 (ap (λ b. or_none (if b (λ _. some x) (λ _. none))) t)
+    pub variable_gone : x < 256 → false ≡ mem x dom → IsVariable env i keys dom None
+    unfolding if
+    variable_gone h t = variable_element h None (ap (λ b. option_of (if b (λ _. some x) (λ _. none))) t)
 
 -- ---- every answer is an element below 256
 
@@ -127,20 +125,22 @@ counts (cons t ts) = ap suc (counts ts)
 
 -- ---- answers tell what the lookup is
 
-pub found_look : (o : Option ℕ) (v e : ℕ) (r : Look) → v ≡ or_none o → ((x : ℕ) → o ≡ some x → x < 256) → Found v e r → r ≡ as_look o e
-unfolding or_none
-found_look none v e Look.Missing p b f = refl
-found_look none v e (Elem x g) p b f = absurd (omega arith)
-found_look (some y) v e Look.Missing p b f = let z = b y refl in absurd (omega arith)
-found_look (some y) v e (Elem x g) p b f = ap₂ Elem (f.1.0 ∙ p) f.1.1
+pub look_some : (o : Option ℕ) (v m e : ℕ) → Some (v, e) ≡ as_look o m → (o ≡ some v) × (m ≡ e)
+look_some none v m e p = absurd (none-some (v, e) (sym p))
+look_some (some w) v m e p = let q = some_pair_parts v w e m p in (ap some (sym q.0), sym q.1)
 
-pub look_some : (o : Option ℕ) (v m e : ℕ) → Elem v e ≡ as_look o m → (o ≡ some v) × (m ≡ e)
-look_some none v m e p = let z : ◌≡◌ {A = ℕ} 0 1 = cc in absurd (omega arith)
-look_some (some w) v m e p = (cc, cc)
-
-pub look_none : (o : Option ℕ) (m : ℕ) → Look.Missing ≡ as_look o m → o ≡ none
+pub look_none : (o : Option ℕ) (m : ℕ) → None ≡ as_look o m → o ≡ none
 look_none none m p = refl
-look_none (some w) m p = let z : ◌≡◌ {A = ℕ} 0 1 = cc in absurd (omega arith)
+look_none (some w) m p = absurd (none-some (w, m) p)
+
+-- A value that is there, with a place, and one that is not.
+pub value_look : (o : Option ℕ) (v e : ℕ) → Some v ≡ option_of o → Some (v, e) ≡ as_look o e
+value_look none v e p = absurd (none-some v (sym p))
+value_look (some w) v e p = ap (λ x. Some (x, e)) (same_Some v w p)
+
+pub none_look : (o : Option ℕ) (e : ℕ) → None ≡ option_of o → None ≡ as_look o e
+none_look none e p = refl
+none_look (some w) e p = absurd (none-some w p)
 
 -- An argument list that was looked up.
 pub record Listed (acc w : ℕ) (o : Option (List ℕ)) (m p e : ℕ) : Type 0 where
@@ -149,28 +149,22 @@ pub record Listed (acc w : ℕ) (o : Option (List ℕ)) (m p e : ℕ) : Type 0 w
   pub packed : p ≡ pack_args acc w values
   pub ends : m ≡ e
 
-pub args_some : (acc w : ℕ) (o : Option (List ℕ)) (m p e : ℕ) → Packed p e ≡ as_args acc w o m → Listed acc w o m p e
-args_some acc w none m p e q = let z : ◌≡◌ {A = ℕ} 0 1 = cc in absurd (omega arith)
-args_some acc w (some xs) m p e q = record { values = xs; is = refl; packed = cc; ends = cc }
+pub args_some : (acc w : ℕ) (o : Option (List ℕ)) (m p e : ℕ) → Some (p, e) ≡ as_args acc w o m → Listed acc w o m p e
+args_some acc w none m p e q = absurd (none-some (p, e) (sym q))
+args_some acc w (some xs) m p e q =
+    let z = some_pair_parts p (pack_args acc w xs) e m q in
+    record { values = xs; is = refl; packed = z.0; ends = sym z.1 }
 
-pub args_none : (acc w : ℕ) (o : Option (List ℕ)) (m : ℕ) → Args.Missing ≡ as_args acc w o m → o ≡ none
+pub args_none : (acc w : ℕ) (o : Option (List ℕ)) (m : ℕ) → None ≡ as_args acc w o m → o ≡ none
 args_none acc w none m q = refl
-args_none acc w (some xs) m q = let z : ◌≡◌ {A = ℕ} 0 1 = cc in absurd (omega arith)
-
-pub good_found : (len at e v : ℕ) (r : Look) → at < e → e ≤ len → Found v e r → LookGood len at r
-good_found len at e v Look.Missing h l f = tt
-good_found len at e v (Elem x g) h l f = (omega arith, (omega arith, omega arith))
-
-pub args_good_later : (len at b : ℕ) (r : Args) → at ≤ b → ArgsGood len b r → ArgsGood len at r
-args_good_later len at b Args.Missing h g = tt
-args_good_later len at b (Packed p e) h g = (omega arith, g.1)
+args_none acc w (some xs) m q = absurd (none-some (pack_args acc w xs, m) q)
 
 -- ---- argument lists
 
 module _ (book text : Bytes) (at acc w n : ℕ) (env keys dom : List ℕ) where
-  pub list_end : n ≡ 0 → IsArgs book text at n acc w env keys dom (Packed acc at)
+  pub list_end : n ≡ 0 → IsArgs book text at n acc w env keys dom (Some (acc, at))
   unfolding TermsText count looks pack_args
-  list_end z m ms nil e s = ap (Packed acc) (sym s.stands)
+  list_end z m ms nil e s = ap (λ j. Some (acc, j)) (sym s.stands)
   list_end z m ms (cons t ts) e s = absurd (omega (arith, s.counted))
 
   -- The first of the terms, and those behind it.
@@ -187,12 +181,12 @@ module _ (book text : Bytes) (at acc w n : ℕ) (env keys dom : List ℕ) where
         ),
       )
 
-  pub list_missing : (n ≡ 0 → ⊥) → IsLook book text at env keys dom Look.Missing → IsArgs book text at n acc w env keys dom Args.Missing
+  pub list_missing : (n ≡ 0 → ⊥) → IsLook book text at env keys dom None → IsArgs book text at n acc w env keys dom None
   unfolding count looks case_o
   list_missing z l m ms nil e s = absurd (z (sym s.counted))
   list_missing z l m ms (cons t ts) e s = let f = first m ms t ts e s in rw (look_none (look t m ms) f.0 (l m ms t f.0 f.1.0))
 
-  pub list_more : (n ≡ 0 → ⊥) → (v b : ℕ) (r : Args) → IsLook book text at env keys dom (Elem v b) → IsArgs book text b (n - 1) (acc + v * w) (w / 256) env keys dom r
+  pub list_more : (n ≡ 0 → ⊥) → (v b : ℕ) (r : std.Option (ℕ × ℕ)) → IsLook book text at env keys dom (Some (v, b)) → IsArgs book text b (n - 1) (acc + v * w) (w / 256) env keys dom r
       → IsArgs book text at n acc w env keys dom r
   unfolding count looks case_o pack_args
   list_more z v b r l i m ms nil e s = absurd (z (sym s.counted))
@@ -208,24 +202,24 @@ module _ (book text : Bytes) (at acc w n : ℕ) (env keys dom : List ℕ) where
 -- ---- what stands first
 
 module _ (book text : Bytes) (at k : ℕ) (env keys dom : List ℕ) (named : num text (at + 2) ≡ k) where
-  pub head_variable : num text at ≡ 0 → (v : ℕ) → IsVariable env k keys dom v → HeadIs book text at env keys dom (Leaf v)
+  pub head_variable : num text at ≡ 0 → (v : std.Option ℕ) → IsVariable env k keys dom v → HeadIs book text at env keys dom (Some (Leaf v))
   unfolding TermText look
   head_variable z v r m ms (var i) e s =
       let p : k ≡ i = sym named ∙ s.stands.1.0 in
-      (subst (λ j. v ≡ or_none (look_meaning m (get_or ms j nobody))) p (r (names_in book) m ms s.shown s.means (subst (λ j. j < length ms) (sym p) s.wf)), s.stands.1.1)
+      (subst (λ j. v ≡ option_of (look_meaning m (get_or ms j nobody))) p (r (names_in book) m ms s.shown s.means (subst (λ j. j < length ms) (sym p) s.wf)), s.stands.1.1)
   head_variable z v r m ms (con c) e s = absurd (omega (arith, s.stands.0))
   head_variable z v r m ms (app f ts) e s = absurd (omega (arith, s.stands.0))
 
-  pub head_constant : num text at ≡ 1 → (v : ℕ) → v ≡ or_none (look_in (start 1 k 0) keys) → HeadIs book text at env keys dom (Leaf v)
+  pub head_constant : num text at ≡ 1 → (v : std.Option ℕ) → v ≡ option_of (look_in (start 1 k 0) keys) → HeadIs book text at env keys dom (Some (Leaf v))
   unfolding TermText look pack_args
   head_constant z v r m ms (var i) e s = absurd (omega (arith, s.stands.0))
   head_constant z v r m ms (con c) e s =
       let p : k ≡ c = sym named ∙ s.stands.1.0 in
       let f = declared_fits (names_in book) s.shown.small (key 1 c []) s.wf tt in
-      (r ∙ ap (λ j. or_none (look_in (start 1 j 0) keys)) p ∙ ap (λ q. or_none (look_in q keys)) (pack_args_lem 1 c [] (omega arith)) ∙ found_key s.shown (key 1 c []) f, s.stands.1.1)
+      (r ∙ ap (λ j. option_of (look_in (start 1 j 0) keys)) p ∙ ap (λ q. option_of (look_in q keys)) (pack_args_lem 1 c [] (omega arith)) ∙ found_key s.shown (key 1 c []) f, s.stands.1.1)
   head_constant z v r m ms (app f ts) e s = absurd (omega (arith, s.stands.0))
 
-  pub head_apply : (num text at ≡ 0 → ⊥) → (num text at ≡ 1 → ⊥) → (n : ℕ) → n ≡ get_or (names_in book).functions k 0 → HeadIs book text at env keys dom (Apply k n)
+  pub head_apply : (num text at ≡ 0 → ⊥) → (num text at ≡ 1 → ⊥) → (n : ℕ) → n ≡ get_or (names_in book).functions k 0 → HeadIs book text at env keys dom (Some (Apply k n))
   unfolding TermText
   head_apply z o n r m ms (var i) e s = absurd (z s.stands.0)
   head_apply z o n r m ms (con c) e s = absurd (o s.stands.0)
@@ -247,33 +241,43 @@ module _ (book text : Bytes) (at k : ℕ) (env keys dom : List ℕ) (named : num
 -- ---- terms
 
 module _ (book text : Bytes) (at : ℕ) (env keys dom : List ℕ) where
-  pub term_short : length text - at < 4 → IsLook book text at env keys dom Look.Missing
+  pub term_short : length text - at < 4 → IsLook book text at env keys dom None
   term_short h m ms t e s = absurd (omega (arith, term_grows (names_in book) text at t e s.stands, s.fits))
 
-  pub term_leaf : (v : ℕ) (r : Look) → HeadIs book text at env keys dom (Leaf v) → Found v (at + 4) r → IsLook book text at env keys dom r
-  term_leaf v r h f m ms t e s =
+  pub term_leaf : (v : ℕ) → HeadIs book text at env keys dom (Some (Leaf (Some v))) → IsLook book text at env keys dom (Some (v, at + 4))
+  term_leaf v h m ms t e s =
       let p = h m ms t e s in
-      found_look (look t m ms) v (at + 4) r p.0 (look_octet s.shown ms s.means.plain t s.wf) f ∙ ap (as_look (look t m ms)) (sym p.1)
+      value_look (look t m ms) v (at + 4) p.0 ∙ ap (as_look (look t m ms)) (sym p.1)
+
+  pub term_gone : HeadIs book text at env keys dom (Some (Leaf None)) → IsLook book text at env keys dom None
+  term_gone h m ms t e s = none_look (look t m ms) e (h m ms t e s).0
 
   -- The value of an application whose arguments were looked up.
-  module _ (f n : ℕ) (h : HeadIs book text at env keys dom (Apply f n)) where
-    pub term_missing : IsArgs book text (at + 4) n (start 2 f n) top env keys dom Args.Missing → IsLook book text at env keys dom Look.Missing
+  module _ (f n : ℕ) (h : HeadIs book text at env keys dom (Some (Apply f n))) where
+    pub term_missing : IsArgs book text (at + 4) n (start 2 f n) top env keys dom None → IsLook book text at env keys dom None
     unfolding look case_o
     term_missing i m ms t e s =
         let a = h m ms t e s in
         let o = args_none (start 2 f n) top (looks a.terms m ms) e (i m ms a.terms e a.ats) in
         rw (a.is, o)
 
-    pub term_apply : (p b v : ℕ) (r : Look) → IsArgs book text (at + 4) n (start 2 f n) top env keys dom (Packed p b) → v ≡ or_none (look_in p keys) → Found v b r
-        → IsLook book text at env keys dom r
-    unfolding look case_o
-    term_apply p b v r i q g m ms t e s =
-        let a = h m ms t e s in
-        let o = args_some (start 2 f n) top (looks a.terms m ms) e p b (i m ms a.terms e a.ats) in
-        let w : WfTerm (app f a.terms) (names_in book) (length ms) = subst (λ u. WfTerm u (names_in book) (length ms)) a.is s.wf in
-        let l = looks_octets s.shown ms s.means.plain a.terms w.1 o.values o.is in
-        let fits = declared_fits (names_in book) s.shown.small (key 2 f o.values) (subst (λ c. T (declared_as (names_in book) 2 f c)) (sym l.1) w.0) l.0 in
-        let c : n ≡ length o.values = sym a.ats.counted ∙ sym (counts a.terms) ∙ sym l.1 in
-        let k : p ≡ pack_key (key 2 f o.values) = o.packed ∙ ap (λ j. pack_args (start 2 f j) top o.values) c ∙ pack_args_lem 2 f o.values fits.few in
-        let is : v ≡ or_none (find (key 2 f o.values) m.keys) = q ∙ ap (λ j. or_none (look_in j keys)) k ∙ found_key s.shown (key 2 f o.values) fits in
-        rw (a.is, o.is) (found_look (find (key 2 f o.values) m.keys) v b r is (find_octet s.shown (key 2 f o.values)) g ∙ ap (as_look (find (key 2 f o.values) m.keys)) (sym o.ends))
+    module _ (p b : ℕ) (i : IsArgs book text (at + 4) n (start 2 f n) top env keys dom (Some (p, b))) where
+      -- The value of the key that the arguments make is that of the term.
+      applied : (m : Model) (ms : List Meaning) (t : Term) (e : ℕ) → At book text at env keys dom m ms t e → (option_of (look_in p keys) ≡ option_of (look t m ms)) × (e ≡ b)
+      unfolding look case_o
+      applied m ms t e s =
+          let a = h m ms t e s in
+          let o = args_some (start 2 f n) top (looks a.terms m ms) e p b (i m ms a.terms e a.ats) in
+          let w : WfTerm (app f a.terms) (names_in book) (length ms) = subst (λ u. WfTerm u (names_in book) (length ms)) a.is s.wf in
+          let l = looks_octets s.shown ms s.means.plain a.terms w.1 o.values o.is in
+          let fits = declared_fits (names_in book) s.shown.small (key 2 f o.values) (subst (λ c. T (declared_as (names_in book) 2 f c)) (sym l.1) w.0) l.0 in
+          let c : n ≡ length o.values = sym a.ats.counted ∙ sym (counts a.terms) ∙ sym l.1 in
+          let k : p ≡ pack_key (key 2 f o.values) = o.packed ∙ ap (λ j. pack_args (start 2 f j) top o.values) c ∙ pack_args_lem 2 f o.values fits.few in
+          let is : option_of (look_in p keys) ≡ option_of (find (key 2 f o.values) m.keys) = ap (λ j. option_of (look_in j keys)) k ∙ found_key s.shown (key 2 f o.values) fits in
+          (rw (a.is, o.is) is, o.ends)
+
+      pub term_apply : (v : ℕ) → Some v ≡ option_of (look_in p keys) → IsLook book text at env keys dom (Some (v, b))
+      term_apply v q m ms t e s = let a = applied m ms t e s in value_look (look t m ms) v b (q ∙ a.0) ∙ ap (as_look (look t m ms)) (sym a.1)
+
+      pub term_unknown : None ≡ option_of (look_in p keys) → IsLook book text at env keys dom None
+      term_unknown q m ms t e s = none_look (look t m ms) e (q ∙ (applied m ms t e s).0)

@@ -1,18 +1,16 @@
 -- A pass that keeps the depths is the last, and any other lowers their sum: so passes end, and end where the document's do.
-use Rattle.std.specs.Prelude.{◌≡◌, refl, Bool, eqb}
+use Rattle.std.specs.Prelude.{◌≡◌, refl, Bool, ◌||◌, eqb}
 use Rattle.std.proofs.Math.Path.{sym, ap}
-use Rattle.std.proofs.Common.{◌∙◌, subst, le_refl, le_trans, add-one, eqb→eq}
+use Rattle.std.proofs.Common.{◌∙◌, subst, le_refl, le_trans, add-one, drop_of_length-le, eqb→eq}
 use Prim.Native.Nat.{ℕ, zero, suc, ◌+◌, ◌≤◌, ◌<◌, min}
 use native.Mathlib.Omega.{arith}
 use Rattle.std.proofs.Math.Bool.{true, false}
 use mathlib.Core.List.{List, [], ◌∷◌}
 use lib.ListN.{length, get_or, drop, set}
-use lib.Seq.{set-get_or, set_out}
+use lib.Seq.{set-get_or, drop-cons}
 use Rattle.base.specs.BranchLaws.{if_elim, if_true, if_false, eq→eqb, neqb→ne}
-use Rattle.rules.specs.Image.{part}
 use Rattle.rules.specs.Merge.{sum}
 use Rattle.packing.specs.Replace.{value_of}
-use Rattle.images.specs.Kept.{Kept, kept_none, kept_then, kept_set, part_set, part_at, kept_count, kept_before}
 use Rattle.lowering.specs.Lower.{over_in, lowest, lower_at, lower_by_in, lower_in}
 
 -- What a flag says of depths before and after: some fell, or all are as they were.
@@ -30,85 +28,55 @@ fell_sum : (f : Bool) (ds es : List ℕ) → Fell f ds es → sum es ≤ sum ds
 fell_sum true ds es h = omega arith
 fell_sum false ds es h = subst (λ (z : List ℕ). sum z ≤ sum ds) (sym h) (le_refl _)
 
+-- What fell before and what fell since.
+fell_then : (f r : Bool) (ds es fs : List ℕ) → Fell f ds es → Fell r es fs → Fell (f || r) ds fs
+fell_then true r ds es fs p q = let t = fell_sum r es fs q in omega arith
+fell_then false true ds es fs p q = subst (λ (z : List ℕ). sum fs < sum z) p q
+fell_then false false ds es fs p q = q ∙ p
+
 -- ---- one key
 
--- The flag as it was and as it is afterwards: once up, it stays up.
-pub record LoweredAt (d n x : ℕ) (f : Bool) (w : List ℕ) (r : Bool) (w' : List ℕ) : Type 0 where
-  pub kept : Kept d n w w'
-  pub depths : part d n w' ≡ lower_at x (part d n w)
-  pub fell : (ds : List ℕ) → Fell f ds (part d n w) → Fell r ds (part d n w')
+pub record LoweredAt (x : ℕ) (ds : List ℕ) (r : Bool) (es : List ℕ) : Type 0 where
+  pub depths : es ≡ lower_at x ds
+  pub fell : Fell r ds es
 
-module _ (d n x : ℕ) (f : Bool) (w : List ℕ) where
-  abbrev ds : List ℕ
-  ds = part d n w
-
-  -- The value is no element that has a depth.
-  pub lowered_none : length ds ≡ n → n ≤ value_of x → LoweredAt d n x f w f w
-  unfolding lower_at
-  lowered_none z h = record { kept = kept_none d n w; depths = sym (set_out ds (value_of x) (lowest ds x) (omega arith)); fell = λ es p. p }
-
+module _ (x : ℕ) (ds : List ℕ) where
   -- The key gives no less.
-  pub lowered_not : get_or ds (value_of x) 0 ≤ lowest ds x → LoweredAt d n x f w f w
+  pub lowered_not : get_or ds (value_of x) 0 ≤ lowest ds x → LoweredAt x ds false ds
   unfolding lower_at lowest
   lowered_not h =
       let e : lowest ds x ≡ get_or ds (value_of x) 0 = omega arith in
-      record { kept = kept_none d n w; depths = sym (ap (set ds (value_of x)) e ∙ set-get_or ds (value_of x) 0); fell = λ es p. p }
+      record { depths = sym (ap (set ds (value_of x)) e ∙ set-get_or ds (value_of x) 0); fell = refl }
 
-  pub lowered_less : value_of x < n → lowest ds x < get_or ds (value_of x) 0 → LoweredAt d n x f w true (set w (d + value_of x) (lowest ds x))
+  pub lowered_less : lowest ds x < get_or ds (value_of x) 0 → LoweredAt x ds true (set ds (value_of x) (lowest ds x))
   unfolding lower_at
-  lowered_less h l =
-      let p = part_set d n w (value_of x) (lowest ds x) h in
-      record {
-        kept = kept_set d n w (value_of x) (lowest ds x) h;
-        depths = p;
-        fell = λ es q.
-            let s = set_sum ds (value_of x) (lowest ds x) (omega arith) in
-            let b = fell_sum f es ds q in
-            let t : sum (part d n (set w (d + value_of x) (lowest ds x))) ≡ sum (set ds (value_of x) (lowest ds x)) = ap sum p in
-            omega arith;
-      }
+  lowered_less h = record { depths = refl; fell = let s = set_sum ds (value_of x) (lowest ds x) (omega arith) in omega arith }
 
--- ---- a pass over k keys, which stand from a on before the depths
+-- ---- a pass over the keys
 
-pub record LoweredBy (a k d n : ℕ) (w : List ℕ) (r : Bool) (w' : List ℕ) : Type 0 where
-  pub kept : Kept d n w w'
-  pub depths : part d n w' ≡ lower_by_in (part a k w) (part d n w)
-  pub fell : Fell r (part d n w) (part d n w')
+pub record LoweredBy (ks ds : List ℕ) (r : Bool) (es : List ℕ) : Type 0 where
+  pub depths : es ≡ lower_by_in ks ds
+  pub fell : Fell r ds es
 
 -- What is left of the pass gives what the whole would.
-pub record Lowering (a k d n : ℕ) (w₀ w : List ℕ) (i : ℕ) (f : Bool) : Type 0 where
-  pub passed : i ≤ k
-  pub kept : Kept d n w₀ w
-  pub rest : lower_by_in (part a k w₀) (part d n w₀) ≡ lower_by_in (drop i (part a k w₀)) (part d n w)
-  pub fell : Fell f (part d n w₀) (part d n w)
+pub record Lowering (ks ds₀ ds : List ℕ) (i : ℕ) (f : Bool) : Type 0 where
+  pub rest : lower_by_in ks ds₀ ≡ lower_by_in (drop i ks) ds
+  pub fell : Fell f ds₀ ds
 
-part_cons : (a k i : ℕ) (w : List ℕ) → a + k ≤ length w → i < k → drop i (part a k w) ≡ get_or w (a + i) 0 ∷ drop (i + 1) (part a k w)
-unfolding part
-part_cons a k i w h l =
-    rw add-one (lib.Seq.drop-cons (part a k w) i 0 (omega (arith, lib.Seq.length-take-le k (drop a w) (omega (arith, lib.ListN.length-drop a w)))))
-    ∙ ap (λ y. y ∷ drop (i + 1) (part a k w)) (part_at a k w i l)
+module _ (ks ds₀ : List ℕ) where
+  pub lowering_start : Lowering ks ds₀ ds₀ 0 false
+  lowering_start = record { rest = refl; fell = refl }
 
-module _ (a k d n : ℕ) (w₀ : List ℕ) (apart : a + k ≤ d) (fits : d + n ≤ length w₀) where
-  pub lowering_start : Lowering a k d n w₀ w₀ 0 false
-  lowering_start = record { passed = omega arith; kept = kept_none d n w₀; rest = refl; fell = refl }
-
-  pub lowering_next : (w w' : List ℕ) (i : ℕ) (f r : Bool) → Lowering a k d n w₀ w i f → i < k → LoweredAt d n (get_or w (a + i) 0) f w r w'
-      → Lowering a k d n w₀ w' (i + 1) r
+  pub lowering_next : (ds es : List ℕ) (i : ℕ) (f r : Bool) → Lowering ks ds₀ ds i f → i < length ks → LoweredAt (get_or ks i 0) ds r es → Lowering ks ds₀ es (i + 1) (f || r)
   unfolding lower_by_in
-  lowering_next w w' i f r g l s = record {
-    passed = omega arith;
-    kept = kept_then g.kept s.kept;
-    rest = g.rest ∙ ap (λ (ks : List ℕ). lower_by_in ks (part d n w)) (part_cons a k i w₀ (omega arith) l)
-        ∙ ap (λ x. lower_by_in (drop (i + 1) (part a k w₀)) (lower_at x (part d n w))) (sym (kept_count g.kept (a + i) (omega arith)))
-        ∙ ap (lower_by_in (drop (i + 1) (part a k w₀))) (sym s.depths);
-    fell = s.fell (part d n w₀) g.fell;
+  lowering_next ds es i f r g l s = record {
+    rest = g.rest ∙ ap (λ (xs : List ℕ). lower_by_in xs ds) (drop-cons ks i 0 l ∙ ap (λ j. get_or ks i 0 ∷ drop j ks) (sym (add-one i))) ∙ ap (lower_by_in (drop (i + 1) ks)) (sym s.depths);
+    fell = fell_then f r ds₀ ds es g.fell s.fell;
   }
 
-  pub lowering_end : (w : List ℕ) (i : ℕ) (f : Bool) → Lowering a k d n w₀ w i f → k ≤ i → LoweredBy a k d n w₀ f w
-  unfolding lower_by_in part
-  lowering_end w i f g l =
-      let e : drop i (part a k w₀) ≡ [] = lib.ListN.drop_of_length-le (part a k w₀) {i = i} (simp lib.ListN.length-take (omega arith)) in
-      record { kept = g.kept; depths = sym (g.rest ∙ ap (λ (ks : List ℕ). lower_by_in ks (part d n w)) e); fell = g.fell }
+  pub lowering_end : (ds : List ℕ) (i : ℕ) (f : Bool) → Lowering ks ds₀ ds i f → length ks ≤ i → LoweredBy ks ds₀ f ds
+  unfolding lower_by_in
+  lowering_end ds i f g l = record { depths = sym (g.rest ∙ ap (λ (xs : List ℕ). lower_by_in xs ds) (drop_of_length-le ks {i = i} l)); fell = g.fell }
 
 -- ---- passes
 
@@ -153,47 +121,36 @@ unfolding lower_in
 rests zero ks ds e = refl
 rests (suc n) ks ds e = if_true (eqb (sum (lower_by_in ks ds)) (sum ds)) _ _ (eq→eqb (sum (lower_by_in ks ds)) (sum ds) (ap sum e))
 
-pub record LoweredTo (a k d n : ℕ) (w w' : List ℕ) : Type 0 where
-  pub kept : Kept d n w w'
-  pub depths : part d n w' ≡ lower_in (sum (part d n w)) (part a k w) (part d n w)
-
 -- While some fell, the passes still to come give what all would; once none fell, all is done.
 abbrev Pending : Bool → (end ks ds : List ℕ) → Type 0
 Pending true end ks ds = end ≡ lower_in (sum ds) ks ds
 Pending false end ks ds = ds ≡ end
 
-pub record Passing (a k d n : ℕ) (w₀ w : List ℕ) (f : Bool) : Type 0 where
-  pub kept : Kept d n w₀ w
-  pub rest : Pending f (lower_in (sum (part d n w₀)) (part a k w₀) (part d n w₀)) (part a k w₀) (part d n w)
+abbrev pub Passing : (ks ds₀ ds : List ℕ) → Bool → Type 0
+Passing ks ds₀ ds f = Pending f (lower_in (sum ds₀) ks ds₀) ks ds
 
 -- How much is left to fall, and one pass to see that none does.
 unfoldable pub left : Bool → List ℕ → ℕ
 left true ds = suc (sum ds)
 left false ds = 0
 
-module _ (a k d n : ℕ) (w₀ : List ℕ) (apart : a + k ≤ d) where
-  pub passing_start : Passing a k d n w₀ w₀ true
-  passing_start = record { kept = kept_none d n w₀; rest = refl }
-
-  pub passing_next : (w w' : List ℕ) (r : Bool) → Passing a k d n w₀ w true → LoweredBy a k d n w r w' → Passing a k d n w₀ w' r
-  passing_next w w' r g s = record { kept = kept_then g.kept s.kept; rest = go r s.fell }
+module _ (ks ds₀ : List ℕ) where
+  pub passing_next : (ds es : List ℕ) (f r : Bool) → f ≡ true → Passing ks ds₀ ds f → LoweredBy ks ds r es → Passing ks ds₀ es r
+  passing_next ds es f r e p s = go r s.fell
     where
-      made : part d n w' ≡ lower_by_in (part a k w₀) (part d n w)
-      made = s.depths ∙ ap (λ (ks : List ℕ). lower_by_in ks (part d n w)) (kept_before g.kept a k apart)
+      g : Passing ks ds₀ ds true
+      g = subst (Passing ks ds₀ ds) e p
 
-      go : (r : Bool) → Fell r (part d n w) (part d n w') → Pending r (lower_in (sum (part d n w₀)) (part a k w₀) (part d n w₀)) (part a k w₀) (part d n w')
+      go : (r : Bool) → Fell r ds es → Pending r (lower_in (sum ds₀) ks ds₀) ks es
       go true h =
-          g.rest ∙ pass (sum (part d n w)) (part a k w₀) (part d n w) (le_refl _) (subst (λ (es : List ℕ). sum es < sum (part d n w)) made h)
-          ∙ ap (λ (es : List ℕ). lower_in (sum es) (part a k w₀) es) (sym made)
-      go false h = h ∙ sym (g.rest ∙ rests (sum (part d n w)) (part a k w₀) (part d n w) (sym made ∙ h))
+          g ∙ pass (sum ds) ks ds (le_refl _) (subst (λ (fs : List ℕ). sum fs < sum ds) s.depths h)
+          ∙ ap (λ (fs : List ℕ). lower_in (sum fs) ks fs) (sym s.depths)
+      go false h = h ∙ sym (g ∙ rests (sum ds) ks ds (sym s.depths ∙ h))
 
-  pub passing_less : (w w' : List ℕ) (r : Bool) → LoweredBy a k d n w r w' → left r (part d n w') < left true (part d n w)
+  pub passing_less : (ds es : List ℕ) (f r : Bool) → f ≡ true → LoweredBy ks ds r es → left r es < left f ds
   unfolding left
-  passing_less w w' r s = go r s.fell
+  passing_less ds es f r e s = subst (λ g. left r es < left g ds) (sym e) (go r s.fell)
     where
-      go : (r : Bool) → Fell r (part d n w) (part d n w') → left r (part d n w') < suc (sum (part d n w))
+      go : (r : Bool) → Fell r ds es → left r es < suc (sum ds)
       go true h = omega arith
       go false h = omega arith
-
-  pub passing_end : (w : List ℕ) → Passing a k d n w₀ w false → LoweredTo a k d n w₀ w
-  passing_end w g = record { kept = g.kept; depths = g.rest }

@@ -1,102 +1,88 @@
-// Depths lowered through keys until none falls, in one slice that has packed keys before the depths: k keys from place a on, and
-// n depths from place d on. An element that has no depth there has depth 0.
+// Depths lowered through packed keys until none falls. An element that has no depth in the slice has depth 0.
 #![tactic(auto)]
 
-ghost use Rattle.std.specs.Prelude.{◌≡◌, ◌+◌, ◌≤◌, ◌<◌, max, length, get_or};
-ghost use Rattle.rules.specs.Image.{part};
-ghost use Rattle.lowering.specs.Lower.{arg_depth, deepest, lowest};
-ghost use Rattle.lowering.specs.Rest.{LoweredAt, LoweredBy, LoweredTo};
+ghost use Rattle.std.specs.Prelude.{◌≡◌, ◌<◌, get_or};
+ghost use Rattle.rules.specs.Merge.{sum};
+ghost use Rattle.lowering.specs.Lower.{arg_depth, deepest, lowest, lower_in};
+ghost use Rattle.lowering.specs.Rest.{LoweredAt, LoweredBy};
 
 // The depth of an element.
-pub fn depth(w: &[u64], d: usize, n: usize, e: u64) -> u64
-    requires { d + n ≤ length w.now }
-    ensures { result ≡ get_or (part d n w.now) e 0 }
+pub fn depth(depths: &[u64], e: u64) -> u64
+    ensures { result ≡ get_or depths.now e 0 }
 {
-    if e < n as u64 { w[d + e as usize] } else { 0 }
-}
-
-fn larger(a: u64, b: u64) -> u64
-    ensures { result ≡ max a b }
-{
-    if a < b { b } else { a }
+    depths.get(e as usize).map_or(0, |d| *d)
 }
 
 // The depth of the entry's i-th argument; behind its arguments, 0.
-fn argument_depth(w: &[u64], d: usize, n: usize, x: u64, i: u64) -> u64
-    requires { (d + n ≤ length w.now) × (i < 4) }
-    ensures { result ≡ arg_depth (part d n w.now) x i }
+#[tactic(auto, using(crate::specs::Lower::arg_there, crate::specs::Lower::arg_none))]
+fn argument_depth(depths: &[u64], x: u64, i: u64) -> u64
+    requires { i < 4 }
+    ensures { result ≡ arg_depth depths.now x i }
 {
     if i < packing::count(x) {
-        return depth(w, d, n, packing::argument(x, i));
+        depth(depths, packing::argument(x, i))
+    } else {
+        0
     }
-    0
 }
 
 // The greatest depth of the entry's arguments.
-fn deepest(w: &[u64], d: usize, n: usize, x: u64) -> u64
-    requires { d + n ≤ length w.now }
-    ensures { result ≡ deepest (part d n w.now) x }
+#[tactic(auto, unfolding(crate::specs::Lower::deepest))]
+fn deepest(depths: &[u64], x: u64) -> u64
+    ensures { result ≡ deepest depths.now x }
 {
-    let front = larger(argument_depth(w, d, n, x, 0), argument_depth(w, d, n, x, 1));
-    let back = larger(argument_depth(w, d, n, x, 2), argument_depth(w, d, n, x, 3));
-    larger(front, back)
+    let front = argument_depth(depths, x, 0).max(argument_depth(depths, x, 1));
+    let back = argument_depth(depths, x, 2).max(argument_depth(depths, x, 3));
+    front.max(back)
 }
 
-// The depth of the entry's value, no more than what the entry gives it.
-fn lowest(w: &[u64], d: usize, n: usize, x: u64) -> u64
-    requires { d + n ≤ length w.now }
-    ensures { result ≡ lowest (part d n w.now) x }
+// The depth of the entry's value, no more than what the entry gives it: one more than the greatest depth, where that is less, so that it
+// cannot wrap.
+#[tactic(auto, using(crate::specs::Lower::lowest_none, crate::specs::Lower::lowest_less, crate::specs::Lower::lowest_same))]
+fn lowest(depths: &[u64], x: u64) -> u64
+    ensures { result ≡ lowest depths.now x }
 {
     if packing::count(x) == 0 {
         return 0;
     }
-    let old = depth(w, d, n, packing::value(x));
-    let over = deepest(w, d, n, x);
-    if over < old {
-        return over + 1;
-    }
-    old
+    let old = depth(depths, packing::value(x));
+    let over = deepest(depths, x);
+    if over < old { over + 1 } else { old }
 }
 
-// The value's depth lowered by one key. Has any fallen, before or now?
-fn lower_at(w: &mut [u64], d: usize, n: usize, x: u64, fell: bool) -> bool
-    requires { d + n ≤ length w.old }
-    ensures { LoweredAt d n x fell w.old result w.new }
+// The value's depth lowered by one key. Has it fallen?
+#[tactic(auto, using(crate::specs::Rest::lowered_not, crate::specs::Rest::lowered_less))]
+fn lower_at(depths: &mut [u64], x: u64) -> bool
+    ensures { LoweredAt x depths.old result depths.new }
 {
-    let v = packing::value(x) as usize;
-    if v >= n {
-        return fell;
-    }
-    let low = lowest(w, d, n, x);
-    if low < w[d + v] {
-        w[d + v] = low;
+    let v = packing::value(x);
+    let low = lowest(depths, x);
+    if low < depth(depths, v) {
+        depths[v as usize] = low;
         return true;
     }
-    fell
+    false
 }
 
 // One pass over the keys. Has any depth fallen?
-fn lower_by(w: &mut [u64], a: usize, k: usize, d: usize, n: usize) -> bool
-    requires { (a + k ≤ d) × (d + n ≤ length w.old) }
-    ensures { LoweredBy a k d n w.old result w.new }
+#[tactic(auto, using(crate::specs::Rest::lowering_end))]
+fn lower_by(keys: &[u64], depths: &mut [u64]) -> bool
+    ensures { LoweredBy keys.now depths.old result depths.new }
 {
     let mut fell = false;
-    let mut i = 0;
-    while i < k {
-        let x = w[a + i];
-        fell = lower_at(w, d, n, x, fell);
-        i += 1;
+    for x in keys {
+        fell |= lower_at(depths, *x);
     }
     fell
 }
 
 // Passes until none lowers a depth.
-pub fn lower(w: &mut [u64], a: usize, k: usize, d: usize, n: usize)
-    requires { (a + k ≤ d) × (d + n ≤ length w.old) }
-    ensures { LoweredTo a k d n w.old w.new }
+#[tactic(auto, using(crate::specs::Rest::passing_next, crate::specs::Rest::passing_less))]
+pub fn lower(keys: &[u64], depths: &mut [u64])
+    ensures { depths.new ≡ lower_in (sum depths.old) keys.now depths.old }
 {
     let mut fell = true;
     while fell {
-        fell = lower_by(w, a, k, d, n);
+        fell = lower_by(keys, depths);
     }
 }

@@ -1,7 +1,8 @@
 -- The nodes of a term's text, each of four bytes in the order of reading: is one of them this variable?
 use Rattle.std.specs.Prelude.{◌≡◌, Bool, true, false, ◌&&◌, ◌||◌, length, eqb}
+use Rattle.std.specs.List.{list_any, range_with_len}
 use Rattle.std.proofs.Math.Path.{refl, ap}
-use Rattle.std.proofs.Common.{sym, ap₂, ◌∙◌, arith, sub-one, ne_eqb}
+use Rattle.std.proofs.Common.{sym, ap₂, ◌∙◌, arith, ne_eqb}
 use Prim.Native.Nat.{ℕ, zero, suc, ◌+◌, ◌-◌, ◌*◌, ◌/◌, ◌≤◌, ◌<◌}
 use Rattle.rules.specs.Book.{Term, var, con, app, Terms, nil, cons, Literal, fact, same, Names, in_term, in_terms, in_literal}
 use Rattle.rules.specs.Reading.{Bytes, num}
@@ -16,31 +17,27 @@ unfoldable pub nodes_have : Bytes → ℕ → ℕ → ℕ → Bool
 nodes_have s at zero v = false
 nodes_have s at (suc k) v = node_is s at v || nodes_have s (at + 4) k v
 
--- ---- a loop over nodes
+-- ---- what is asked of a node, and of several
 
 pub node_variable : (s : Bytes) (at v x : ℕ) → num s at ≡ 0 → x ≡ num s (at + 2) → eqb x v ≡ node_is s at v
 unfolding node_is
 node_variable s at v x z q = rw (z, q)
 
-pub node_other : (s : Bytes) (at v : ℕ) → (num s at ≡ 0 → ⊥) → false ≡ node_is s at v
+pub node_other : (s : Bytes) (at v x : ℕ) → x ≡ num s at → (x ≡ 0 → ⊥) → eqb x 0 ≡ node_is s at v
 unfolding node_is
-node_other s at v z = rw (ne_eqb (num s at) 0 z)
+node_other s at v x q z = rw (← q, ne_eqb x 0 z)
 
-module _ (s : Bytes) (v p : ℕ) where
-  pub have_none : (k : ℕ) → k ≡ 0 → false ≡ nodes_have s p k v
-  unfolding nodes_have
-  have_none zero z = refl
-  have_none (suc k) z = absurd (omega arith)
+pub have_none : (s : Bytes) (v p k : ℕ) → k ≡ 0 → false ≡ nodes_have s p k v
+unfolding nodes_have
+have_none s v p zero z = refl
+have_none s v p (suc k) z = absurd (omega arith)
 
-  pub have_here : (k : ℕ) → 0 < k → true ≡ node_is s p v → true ≡ nodes_have s p k v
-  unfolding nodes_have
-  have_here zero h q = absurd (omega arith)
-  have_here (suc k) h q = rw (← q)
-
-  pub have_next : (k : ℕ) → 0 < k → false ≡ node_is s p v → nodes_have s p k v ≡ nodes_have s (p + 4) (k - 1) v
-  unfolding nodes_have
-  have_next zero h q = absurd (omega arith)
-  have_next (suc k) h q = rw (← q, sub-one)
+-- One of the nodes counted from 0 on.
+pub have_any : (s : Bytes) (v p k i : ℕ) → list_any (λ j. node_is s (p + 4 * j) v) (range_with_len i k) ≡ nodes_have s (p + 4 * i) k v
+unfolding nodes_have
+have_any s v p zero i = refl
+have_any s v p (suc k) i = let e : p + 4 * (i + 1) ≡ p + 4 * i + 4 = omega arith in
+    ap (λ b. node_is s (p + 4 * i) v || b) (have_any s v p k (i + 1) ∙ ap (λ q. nodes_have s q k v) e)
 
 -- ---- the nodes of a term
 

@@ -1,4 +1,4 @@
-// mentions: is a variable in a literal, or in one of several that follow one another? A loop over the nodes of their text.
+// mentions: is a variable in a literal, or in one of several that follow one another? The nodes of their text are asked one after another.
 #![tactic(auto)]
 
 ghost use Rattle.std.specs.Prelude.{◌≡◌, ◌+◌, ◌-◌, ◌*◌, ◌/◌, ◌≤◌, ◌<◌, length};
@@ -14,10 +14,7 @@ fn node_is(text: &[u8], at: usize, v: u64) -> bool
     requires { at + 4 ≤ length text.now }
     ensures { result ≡ node_is text.now at v }
 {
-    if num16(text, at) == 0 {
-        return num16(text, at + 2) == v;
-    }
-    false
+    num16(text, at) == 0 && num16(text, at + 2) == v
 }
 
 // Is one of k nodes from a place on?
@@ -25,16 +22,7 @@ fn nodes_have(text: &[u8], at: usize, k: usize, v: u64) -> bool
     requires { at + 4 * k ≤ length text.now }
     ensures { result ≡ nodes_have text.now at k v }
 {
-    let mut p = at;
-    let mut left = k;
-    while left > 0 {
-        if node_is(text, p, v) {
-            return true;
-        }
-        p += 4;
-        left -= 1;
-    }
-    false
+    (0..k).any(|i| node_is(text, at + 4 * i, v))
 }
 
 // Is one of the nodes from a place to a place?
@@ -42,10 +30,7 @@ fn span_has(text: &[u8], b: usize, e: usize, v: u64) -> bool
     requires { e ≤ length text.now }
     ensures { result ≡ nodes_have text.now b ((e - b) / 4) v }
 {
-    if e < b {
-        return false;
-    }
-    nodes_have(text, b, (e - b) / 4, v)
+    e >= b && nodes_have(text, b, (e - b) / 4, v)
 }
 
 // Is the variable in the literal at a place?
@@ -69,13 +54,11 @@ pub fn mentioned(book: &[u8], text: &[u8], at: usize, n: u64, v: u64) -> bool
     ensures { MentionsOne (names_in book.now) text.now v at n result }
 {
     let mut p = at;
-    let mut i = 0;
-    while i < n {
+    for _ in 0..n {
         if literal_mentions(book, text, p, v) {
             return true;
         }
         p = skip_literal(book, text, p);
-        i += 1;
     }
     false
 }

@@ -11,7 +11,8 @@ use Rattle.packing.specs.Replace.{replaced}
 use Rattle.tables.specs.Table.{Rising}
 use Rattle.renaming.specs.Order.{order_in, Sorted}
 use Rattle.filing.specs.File.{Files, refile_in, refact_in, refile_rises, refact_rises, rising_sorted}
-use Rattle.sheets.specs.Form.{Formed, keys_at, facts_at, depths_at, history_at, form_size}
+use Rattle.limits.specs.Limits.{keys_at, facts_at, depths_at, history_at, form_size}
+use Rattle.sheets.specs.Form.{Formed}
 use Rattle.joining.specs.Leaf.{JoinedFacts}
 use Rattle.joining.specs.Work.{Work, into_in}
 use Rattle.merge.specs.Regions.{KeysAt, RegionAt}

@@ -11,9 +11,10 @@ use Rattle.rules.specs.Image.{part}
 use Rattle.rules.specs.Merge.{Pair, merge_into, merge_all, lowered, merge}
 use Rattle.renaming.specs.Order.{Sorted}
 use Rattle.filing.specs.Carry.{pack_pair}
-use Rattle.sheets.specs.Form.{View, view_of, Formed, keys_at, facts_at, depths_at, history_at}
+use Rattle.limits.specs.Limits.{keys_at, facts_at, depths_at, history_at}
+use Rattle.sheets.specs.Form.{View, view_of, Formed}
 use Rattle.images.specs.Kept.{Kept, kept_set, part_set, kept_count, kept_before, kept_behind, part_size}
-use Rattle.lowering.specs.Rest.{LoweredTo}
+use Rattle.merge.specs.Regions.{LoweredTo}
 use Rattle.joining.specs.Work.{Work, waiting, merge_all_in, rounds, lowered_in}
 use Rattle.joining.specs.Carry.{work_of, Ready, Packs, merged_in, merge_is}
 use Rattle.merge.specs.Into.{keys_room, work_at, Orderly, Fewer, fewer_then}

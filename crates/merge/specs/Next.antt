@@ -6,7 +6,8 @@ use Rattle.std.proofs.Math.Dec.{not_T}
 use Rattle.base.specs.BranchLaws.{if_true, if_false, eq→eqb}
 use Rattle.rules.specs.Sheet.{Limits}
 use Rattle.rules.specs.Image.{part}
-use Rattle.sheets.specs.Form.{Formed, keys_at}
+use Rattle.limits.specs.Limits.{keys_at}
+use Rattle.sheets.specs.Form.{Formed}
 use Rattle.images.specs.Kept.{part_at, part_size}
 use Rattle.joining.specs.Work.{Work, into_in, next_in, merge_all_in, rounds, all_next, all_end}
 use Rattle.merge.specs.Into.{keys_room, work_at, Orderly, Fewer, fewer_same, fewer_then, IntoForm}

@@ -2,27 +2,25 @@
 use Rattle.std.specs.Prelude.{◌≡◌, ℕ, Bool, true, false}
 use Rattle.std.proofs.Common.{ap}
 use Rattle.base.specs.Branch.{if}
-use Rattle.rules.specs.Reading.{Read, and_then}
-use Rattle.numbers.specs.declared.Checked.TheVariants.{Ends, Refused}
-use Rattle.numbers.specs.declared.Value.TheVariants.{Is, Fault}
-use Rattle.numbers.specs.Answers.{checked, value, value_is, value_fault, checked_ends, checked_refused}
+use Rattle.rules.specs.Reading.{Read, got, refused, and_then, giving}
+use Rattle.numbers.specs.Answers.{checked, checked_ends, checked_refused}
 
 -- After a number.
-pub after_is : {B : Type 0} (r : Read ℕ) (f : ℕ → ℕ → Read B) (x e : ℕ) → Is x e ≡ value r → checked (and_then r f) ≡ checked (f x e)
+pub after_is : {B : Type 0} (r : Read ℕ) (f : ℕ → ℕ → Read B) (x e : ℕ) → got x e ≡ r → checked (and_then r f) ≡ checked (f x e)
 unfolding and_then
-after_is r f x e h = rw (value_is r x e h)
+after_is r f x e h = rw (← h)
 
-pub after_fault : {B : Type 0} (r : Read ℕ) (f : ℕ → ℕ → Read B) (n p : ℕ) → Fault n p ≡ value r → checked (and_then r f) ≡ Refused n p
-unfolding and_then checked
-after_fault r f n p h = rw (value_fault r n p h)
+pub after_fault : {B : Type 0} (r : Read ℕ) (f : ℕ → ℕ → Read B) (n p : ℕ) → refused n p ≡ r → checked (and_then r f) ≡ refused n p
+unfolding and_then checked giving
+after_fault r f n p h = rw (← h)
 
 -- After a check.
-pub after_ends : {A B : Type 0} (r : Read A) (f : A → ℕ → Read B) (e : ℕ) (h : Ends e ≡ checked r) → checked (and_then r f) ≡ checked (f (checked_ends r e h).thing e)
+pub after_ends : {A B : Type 0} (r : Read A) (f : A → ℕ → Read B) (e : ℕ) (h : got tt e ≡ checked r) → checked (and_then r f) ≡ checked (f (checked_ends r e h).thing e)
 unfolding and_then
 after_ends r f e h = ap (λ q. checked (and_then q f)) (checked_ends r e h).read
 
-pub after_refused : {A B : Type 0} (r : Read A) (f : A → ℕ → Read B) (n p : ℕ) → Refused n p ≡ checked r → checked (and_then r f) ≡ Refused n p
-unfolding and_then checked
+pub after_refused : {A B : Type 0} (r : Read A) (f : A → ℕ → Read B) (n p : ℕ) → refused n p ≡ checked r → checked (and_then r f) ≡ refused n p
+unfolding and_then checked giving
 after_refused r f n p h = rw (checked_refused r n p h)
 
 -- A test.

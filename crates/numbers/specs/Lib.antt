@@ -1,4 +1,4 @@
--- What the answers say of a reading, and the laws by which a check follows it.
+-- What the answers say of a reading, the laws by which a check follows it, and rows of checks.
 pub mod Answers
-pub mod Loops
 pub mod Chains
+pub mod Rows

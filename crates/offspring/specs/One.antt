@@ -1,8 +1,9 @@
 -- One child stored: the pool's state with it in the lowest free slot.
-use Rattle.std.specs.Prelude.{◌≡◌, ℕ, suc, ◌+◌, ◌*◌, ◌≤◌, ◌<◌, Bool, List, [], ◌∷◌, length, get_or, take}
+use Rattle.std.specs.Prelude.{◌≡◌, ℕ, suc, ◌+◌, ◌*◌, ◌≤◌, ◌<◌, Bool, List, [], ◌∷◌, length, get_or, take, Ok, Err}
 use Rattle.std.proofs.Common.{sym, ◌∙◌, subst, mul-suc, mul-le-mul_left, arith}
 use Rattle.std.proofs.Math.Path.{ap}
 use Rattle.std.proofs.Math.Bool.{false}
+use Rattle.std.proofs.Math.Dec.{T}
 use Rattle.rules.specs.Book.{Disjunct, completed_disjunct}
 use Rattle.rules.specs.Reading.{Bytes}
 use Rattle.rules.specs.Sheet.{Model, Limits}
@@ -11,7 +12,8 @@ use Rattle.rules.specs.Image.{pool_bytes}
 use Rattle.rules.specs.Bound.{Bound}
 use Rattle.rules.specs.Child.{child}
 use Rattle.rules.specs.Step.{with_placed}
-use Rattle.child.specs.Whole.{Made}
+use Rattle.child.specs.Whole.{InRoom}
+use Rattle.telling.specs.declared.TooLarge.{TooLarge}
 use Rattle.children.specs.Derived.{Parent, DisjunctHere, IsDerived}
 use Rattle.placing.specs.OneByOne.{the_child}
 use Rattle.lists.specs.Header.{LowestFree, lowest_first, lowest_gone}
@@ -39,24 +41,27 @@ lowest_is lim s p sh r l h i fs e = elim (native.Mathlib.Decide.dec_le (suc r) (
   | no k ↦ absurd (let z = ap length (sym (shows_free lim s p sh ∙ e) ∙ lowest_gone p (length s.slots) r l (omega arith) h) in omega arith)
 ]
 
-module _ (book : Bytes) (at v : ℕ) (bd : Bound) (lim : Limits) (place : ℕ) (env base : List ℕ) (slots : ℕ) (p : Bytes)
-    (cut over : Bool) (w : List ℕ) (made : IsDerived book at v bd lim env base cut over w) (r : ℕ) (h : r ≤ slots) (low : LowestFree p slots r) where
-  pub one_full : slots ≤ r → PlacedOne book at v bd lim place env base slots p p
-  one_full z m a d e t s sh n i fs f o g =
-      let q = lowest_is lim s p sh r (subst (λ x. LowestFree p x r) (sym n) low) (omega arith) i fs f in
-      let y = q.0 in
-      absurd (omega arith)
+module _ (book : Bytes) (at v : ℕ) (bd : Bound) (lim : Limits) (place : ℕ) (env base : List ℕ) (slots : ℕ) (p : Bytes) where
+  pub one_over : (x : TooLarge) (w : List ℕ) → IsDerived book at v bd lim env base (Err x) w → PlacedOne book at v bd lim place env base slots p p
+  one_over x w made m a d e t s sh n i fs f o g = absurd (subst T (sym (made m a d e t) ∙ o) tt)
 
-  pub one_placed : (p' : Bytes) → Adopted lim r cut place w p p' → PlacedOne book at v bd lim place env base slots p p'
-  unfolding the_child
-  one_placed p' ad m a d e t s sh n i fs f o g =
-      let q = lowest_is lim s p sh r (subst (λ x. LowestFree p x r) (sym n) low) (omega arith) i fs f in
-      let k = child lim bd m (take v env) (completed_disjunct v d) in
-      let y : Made lim k cut over w = made m a d e t in
-      let z : over ≡ false = y.full ∙ o in
-      ad s sh k.model k.now (y.carries z) (subst (λ x. Fitting lim s x place k.model) (sym q.1) g)
-      ∙ ap (λ (x : ℕ). pool_bytes lim (with_placed s (record { slot = x; cut = cut; sheet = record { number = s.next; place = place; model = k.model } } ∷ [])).state) q.1
-      ∙ ap (λ (b : Bool). pool_bytes lim (with_placed s (record { slot = i; cut = b; sheet = record { number = s.next; place = place; model = k.model } } ∷ [])).state) (y.skipped z)
+  module _ (r : ℕ) (h : r ≤ slots) (low : LowestFree p slots r) where
+    pub one_full : slots ≤ r → PlacedOne book at v bd lim place env base slots p p
+    one_full z m a d e t s sh n i fs f o g =
+        let q = lowest_is lim s p sh r (subst (λ x. LowestFree p x r) (sym n) low) (omega arith) i fs f in
+        let y = q.0 in
+        absurd (omega arith)
+
+    pub one_placed : (cut : Bool) (w : List ℕ) → IsDerived book at v bd lim env base (Ok cut) w → (p' : Bytes) → Adopted lim r cut place w p p'
+        → PlacedOne book at v bd lim place env base slots p p'
+    unfolding the_child
+    one_placed cut w made p' ad m a d e t s sh n i fs f o g =
+        let q = lowest_is lim s p sh r (subst (λ x. LowestFree p x r) (sym n) low) (omega arith) i fs f in
+        let k = child lim bd m (take v env) (completed_disjunct v d) in
+        let y : InRoom lim k cut w = made m a d e t in
+        ad s sh k.model k.now y.carries (subst (λ x. Fitting lim s x place k.model) (sym q.1) g)
+        ∙ ap (λ (x : ℕ). pool_bytes lim (with_placed s (record { slot = x; cut = cut; sheet = record { number = s.next; place = place; model = k.model } } ∷ [])).state) q.1
+        ∙ ap (λ (b : Bool). pool_bytes lim (with_placed s (record { slot = i; cut = b; sheet = record { number = s.next; place = place; model = k.model } } ∷ [])).state) y.skipped
 
 -- Only the chosen elements of the environment matter, and its length.
 pub one_env : (book : Bytes) (at v : ℕ) (bd : Bound) (lim : Limits) (place : ℕ) (env env₀ base : List ℕ) (slots : ℕ) (p p' : Bytes)

@@ -7,7 +7,7 @@ use Rattle.std.proofs.Math.Decide.{dec_le}
 use Rattle.std.proofs.Math.Bool.{true, false}
 use Rattle.std.proofs.lemmas.List.{replicate-append-replicate}
 use Rattle.std.proofs.Math.Dec.{leb, ltb, eqb}
-use borrow.Author.Tests.{ltb-true, lt-ltb, le-ltb, le-leb, lt-leb, eq-eqb, ne_eqb}
+use borrow.Author.Tests.{lt-ltb, le-ltb, le-leb, eq-eqb, ne_eqb}
 use Rattle.base.specs.Branch.{if}
 use Rattle.base.specs.Lists.{flat}
 use Rattle.rules.specs.Book.{Book}
@@ -16,10 +16,13 @@ use Rattle.rules.specs.Sheet.{blank, limits}
 use Rattle.rules.specs.Pool.{opened, schedulers, strategies}
 use Rattle.rules.specs.Image.{word, long, padded, pool_mark, most_slots, pool_head, pool_bytes, head_size, sheet_size, slots_in, sheet_bytes}
 use Rattle.rules.specs.Calls.{right_length, checked, Outcome, outcome, open_call, OpenPromise}
+use Rattle.numbers.specs.Answers.{outside}
 use Rattle.images.specs.Sheets.{blank_zero}
 use Rattle.poolcheck.specs.Books.{right_slots}
-use Rattle.sheetparts.specs.Ways.{on}
-use Rattle.openings.specs.Order.{first_refusal, first_refuses, none_refused}
+use Rattle.sheetparts.specs.Ways.{on, off}
+use Rattle.settings.specs.declared.Scheduler.{Scheduler}
+use Rattle.settings.specs.declared.Strategy.{Strategy}
+use Rattle.settings.specs.Codes.{code_of_scheduler, code_of_strategy, scheduler_low, strategy_low}
 
 -- ---- lengths
 
@@ -31,20 +34,18 @@ module _ (len n : ℕ) (e : n ≡ (len - 208) / 2128) where
   pub length_wrong : (len ≡ 208 + 2128 * n → ⊥) → false ≡ right_length len
   length_wrong h = sym (right_is ∙ ap (λ b. b && (leb 1 n && leb n 64)) (ne_eqb len (208 + 2128 * n) h))
 
-  pub length_none : len ≡ 208 + 2128 * n → n < 1 → false ≡ right_length len
-  length_none h l = sym (right_is ∙ ap₂ (λ a b. a && (b && leb n 64)) (eq-eqb len (208 + 2128 * n) h) (lt-leb 1 n l))
-
-  pub length_right : len ≡ 208 + 2128 * n → 1 ≤ n → leb n 64 ≡ right_length len
-  length_right h l = sym (right_is ∙ ap₂ (λ a b. a && (b && leb n 64)) (eq-eqb len (208 + 2128 * n) h) (le-leb 1 n l))
+  pub length_right : len ≡ 208 + 2128 * n → (b : Bool) → (b ≡ true → (1 ≤ n) × (n ≤ 64)) → (b ≡ false → 1 ≤ n → n ≤ 64 → ⊥) → b ≡ right_length len
+  length_right h true y z = let p = y refl in sym (right_is ∙ rw (eq-eqb len (208 + 2128 * n) h, le-leb 1 n p.0, le-leb n 64 p.1) refl)
+  length_right h false y z = sym (right_is ∙ rw (eq-eqb len (208 + 2128 * n) h, outside 1 64 n (z refl)) refl)
 
 pub length_short : (len : ℕ) → len < 208 → false ≡ right_length len
 length_short len h = length_wrong len ((len - 208) / 2128) refl (λ e. omega arith)
 
-pub length_least : (len : ℕ) → true ≡ right_length len → 208 ≤ len
+pub length_least : (len : ℕ) → right_length len ≡ true → 208 ≤ len
 length_least len e = elim (dec_le 208 len) [ yes h ↦ h | no h ↦ (let f = length_short len (omega arith) in let z : ◌≡◌ {A = ℕ} 0 1 = cc in absurd (omega arith)) ]
 
-pub right_true : (len : ℕ) → true ≡ right_length len → T (right_length len)
-right_true len e = subst T e tt
+pub right_true : (len : ℕ) → right_length len ≡ true → T (right_length len)
+right_true len e = subst T (sym e) tt
 
 -- ---- behind the book's check
 
@@ -62,40 +63,46 @@ pub record OpenRest (pool : Bytes) (scheduler strategy answer : ℕ) (after : By
   pub leaves : after ≡ (open_rest pool scheduler strategy).pool
 
 module _ (scheduler strategy : ℕ) where
-  pub scheduler_unknown : 2 ≤ scheduler → false ≡ settings_known scheduler strategy
+  scheduler_unknown : 2 ≤ scheduler → settings_known scheduler strategy ≡ false
   unfolding schedulers
-  scheduler_unknown h = sym (ap (λ b. b && ltb strategy strategies) (le-ltb scheduler 2 h))
+  scheduler_unknown h = ap (λ b. b && ltb strategy strategies) (le-ltb scheduler 2 h)
 
-  pub strategy_decides : scheduler < 2 → ltb strategy 2 ≡ settings_known scheduler strategy
+  strategy_unknown : scheduler < 2 → 2 ≤ strategy → settings_known scheduler strategy ≡ false
   unfolding schedulers strategies
-  strategy_decides h = sym (ap (λ b. b && ltb strategy 2) (lt-ltb scheduler 2 h))
+  strategy_unknown h k = rw (lt-ltb scheduler 2 h, le-ltb strategy 2 k) refl
 
-  pub settings_within : true ≡ settings_known scheduler strategy → (scheduler < 2) × (strategy < 2)
+  both_known : scheduler < 2 → strategy < 2 → settings_known scheduler strategy ≡ true
   unfolding schedulers strategies
-  settings_within e = go (ltb scheduler 2) (ltb strategy 2) refl refl (sym e)
-    where
-      go : (a b : Bool) → ltb scheduler 2 ≡ a → ltb strategy 2 ≡ b → a && b ≡ true → (scheduler < 2) × (strategy < 2)
-      go true true p q _ = (ltb-true scheduler 2 p, ltb-true strategy 2 q)
-      go true false p q e = absurd (let z : ◌≡◌ {A = ℕ} 0 1 = cc in omega arith)
-      go false b p q e = absurd (let z : ◌≡◌ {A = ℕ} 0 1 = cc in omega arith)
+  both_known h k = rw (lt-ltb scheduler 2 h, lt-ltb strategy 2 k) refl
 
-module _ (pool : Bytes) (scheduler strategy n : ℕ) (e : n ≡ first_refusal (right_length (length pool)) (settings_known scheduler strategy)) where
-  pub open_unfit : (n ≡ 0 → ⊥) → OpenRest pool scheduler strategy n pool
+module _ (pool : Bytes) (scheduler strategy : ℕ) where
+  rest_is : (o : Outcome) → open_rest pool scheduler strategy ≡ o → OpenRest pool scheduler strategy o.answer o.pool
+  rest_is o e = record { answers = ap (λ (x : Outcome). x.answer) (sym e); leaves = ap (λ (x : Outcome). x.pool) (sym e) }
+
+  pub open_eleven : right_length (length pool) ≡ false → OpenRest pool scheduler strategy 11 pool
   unfolding open_rest outcome
-  open_unfit z =
-      let o : open_rest pool scheduler strategy ≡ outcome n pool =
-      first_refuses (right_length (length pool)) (settings_known scheduler strategy) (λ k. outcome k pool) _ (λ q. z (e ∙ q)) ∙ ap (λ k. outcome k pool) (sym e) in
-      record { answers = ap (λ (x : Outcome). x.answer) (sym o); leaves = ap (λ (x : Outcome). x.pool) (sym o) }
+  open_eleven e = rest_is (outcome 11 pool) (off (right_length (length pool)) _ _ e)
 
-  pub open_fit : n ≡ 0 → (true ≡ right_length (length pool)) × (true ≡ settings_known scheduler strategy)
-  open_fit z = none_refused (right_length (length pool)) (settings_known scheduler strategy) (sym e ∙ z)
+  module _ (e : right_length (length pool) ≡ true) where
+    twelve : settings_known scheduler strategy ≡ false → OpenRest pool scheduler strategy 12 pool
+    unfolding open_rest outcome
+    twelve u = rest_is (outcome 12 pool) (on (right_length (length pool)) _ _ e ∙ off (settings_known scheduler strategy) _ _ u)
 
-  pub opens : n ≡ 0 → (after : Bytes) → after ≡ pool_bytes limits (opened scheduler strategy (slots_in limits (length pool))) → OpenRest pool scheduler strategy 0 after
-  unfolding open_rest outcome
-  opens z after q =
-      let f = open_fit z in
-      let o = on (right_length (length pool)) _ _ (sym f.0) ∙ on (settings_known scheduler strategy) _ _ (sym f.1) in
-      record { answers = ap (λ (x : Outcome). x.answer) (sym o); leaves = q ∙ ap (λ (x : Outcome). x.pool) (sym o) }
+    pub no_scheduler : 2 ≤ scheduler → OpenRest pool scheduler strategy 12 pool
+    no_scheduler h = twelve (scheduler_unknown scheduler strategy h)
+
+    pub no_strategy : (s : Scheduler) → code_of_scheduler s ≡ scheduler → 2 ≤ strategy → OpenRest pool scheduler strategy 12 pool
+    no_strategy s p h = let l = scheduler_low s in twelve (strategy_unknown scheduler strategy (omega arith) h)
+
+    pub opens : (s : Scheduler) → code_of_scheduler s ≡ scheduler → (t : Strategy) → code_of_strategy t ≡ strategy
+        → (after : Bytes) → after ≡ pool_bytes limits (opened (code_of_scheduler s) (code_of_strategy t) (slots_in limits (length pool))) → OpenRest pool scheduler strategy 0 after
+    unfolding open_rest outcome
+    opens s p t q after w =
+        let l = scheduler_low s in
+        let m = strategy_low t in
+        let o = on (right_length (length pool)) _ _ e ∙ on (settings_known scheduler strategy) _ _ (both_known scheduler strategy (omega arith) (omega arith)) in
+        let x : after ≡ pool_bytes limits (opened scheduler strategy (slots_in limits (length pool))) = w ∙ ap₂ (λ (j k : ℕ). pool_bytes limits (opened j k (slots_in limits (length pool)))) p q in
+        record { answers = ap (λ (x : Outcome). x.answer) (sym o); leaves = x ∙ ap (λ (x : Outcome). x.pool) (sym o) }
 
 -- ---- the image
 

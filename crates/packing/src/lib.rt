@@ -13,20 +13,17 @@ pub fn count(x: u64) -> u64
 }
 
 // The i-th of the four arguments.
+#[tactic(auto, unfolding(crate::specs::Replace::arg_of))]
 pub fn argument(x: u64, i: u64) -> u64
     requires { i < 4 }
     ensures { (result ≡ arg_of x i) × (result < 256) }
 {
-    if i == 0 {
-        return x / 4294967296 % 256;
+    match i {
+        0 => x / 4294967296 % 256,
+        1 => x / 16777216 % 256,
+        2 => x / 65536 % 256,
+        _ => x / 256 % 256,
     }
-    if i == 1 {
-        return x / 16777216 % 256;
-    }
-    if i == 2 {
-        return x / 65536 % 256;
-    }
-    x / 256 % 256
 }
 
 pub fn value(x: u64) -> u64
@@ -44,6 +41,7 @@ pub fn renamed(e: u64, s: u64, l: u64) -> u64
 }
 
 // The same in the four arguments and the value of an entry.
+#[tactic(auto, unfolding(crate::specs::Replace::replaced))]
 pub fn replace(x: u64, s: u64, l: u64) -> u64
     requires { s < 256 }
     ensures { result ≡ replaced s l x }

@@ -14,6 +14,7 @@ use Rattle.rules.specs.Image.{head_size, sheet_size, slots_in, most_slots, part,
 use Rattle.images.specs.Storable.{small_limits, blank_storable}
 use Rattle.images.specs.Sheets.{sheet_back, blank_zero}
 use Rattle.lines.specs.Text.{fields, stop_word, steps_word, complete_word, bounded_word, waiting_word, newline, sheet_lines, listing}
+use Rattle.lines.specs.Lines.{take_few}
 use Rattle.pages.specs.Tables.{slot_text, slots_text, stop_line, waiting_line}
 
 -- ---- a slot
@@ -45,15 +46,8 @@ module _ (p : Bytes) (i : ℕ) where
 
 -- ---- the whole
 
--- A list that is cut at its room.
-take_few : {A : Type 0} (c n : ℕ) (l : List A) → take (min c n) l ≡ take c (take n l)
-take_few zero n l = let e : min 0 n ≡ 0 = omega arith in rw e
-take_few (suc c) zero l = let e : min (suc c) 0 ≡ 0 = omega arith in rw e
-take_few (suc c) (suc n) [] = let e : min (suc c) (suc n) ≡ suc (min c n) = omega arith in rw e
-take_few (suc c) (suc n) (x ∷ l) = let e : min (suc c) (suc n) ≡ suc (min c n) = omega arith in rw e (ap (λ (k : List _). x ∷ k) (take_few c n l))
-
-groups : (a b c d e f g h i j : Bytes) → (((a ++ (b ++ (c ++ (d ++ e)))) ++ f) ++ g) ++ (h ++ (i ++ j)) ≡ a ++ (b ++ (c ++ (d ++ (e ++ (f ++ (g ++ (h ++ (i ++ j))))))))
-groups a b c d e f g h i j = simp append_assoc
+groups : (p a b c d e f g h i j : Bytes) → (((p ++ (a ++ (b ++ (c ++ (d ++ e))))) ++ f) ++ g) ++ (h ++ (i ++ j)) ≡ p ++ (a ++ (b ++ (c ++ (d ++ (e ++ (f ++ (g ++ (h ++ (i ++ j)))))))))
+groups p a b c d e f g h i j = simp append_assoc
 
 module _ (p : Bytes) where
   abbrev s : State
@@ -81,12 +75,12 @@ module _ (p : Bytes) where
   unfolding pool_in
   bounded_long h = list_long 144 14 (omega arith)
 
-  pub listing_parts : 208 ≤ length p → (stop steps : ℕ)
-      → ((stop_line stop steps ++ slots_text complete_word p (take (min (get_or p 13 0) 64) (drop 80 p))) ++ slots_text bounded_word p (take (min (get_or p 14 0) 64) (drop 144 p)))
-      ++ waiting_line (min (get_or p 12 0) 64) ≡ listing stop steps s
+  pub listing_parts : 208 ≤ length p → (q : Bytes) (stop steps : ℕ)
+      → (((q ++ stop_line stop steps) ++ slots_text complete_word p (take (min (get_or p 13 0) 64) (drop 80 p))) ++ slots_text bounded_word p (take (min (get_or p 14 0) 64) (drop 144 p)))
+      ++ waiting_line (min (get_or p 12 0) 64) ≡ q ++ listing stop steps s
   unfolding listing stop_line waiting_line pool_in
-  listing_parts h stop steps =
+  listing_parts h q stop steps =
       ap₂ (λ (x : Bytes) (n : ℕ). x ++ waiting_line n)
-      (ap₂ (λ (x y : Bytes). (stop_line stop steps ++ x) ++ y) (list_is complete_word 80 13) (list_is bounded_word 144 14)) (waiting_is h)
-      ∙ groups stop_word (fields (stop ∷ [])) steps_word (fields (steps ∷ [])) newline (flat (map (sheet_lines complete_word) (sheets_at s s.complete)))
+      (ap₂ (λ (x y : Bytes). ((q ++ stop_line stop steps) ++ x) ++ y) (list_is complete_word 80 13) (list_is bounded_word 144 14)) (waiting_is h)
+      ∙ groups q stop_word (fields (stop ∷ [])) steps_word (fields (steps ∷ [])) newline (flat (map (sheet_lines complete_word) (sheets_at s s.complete)))
       (flat (map (sheet_lines bounded_word) (sheets_at s s.bounded))) waiting_word (fields (length s.waiting ∷ [])) newline

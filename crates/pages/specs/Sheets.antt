@@ -15,6 +15,9 @@ use Rattle.rules.specs.Image.{key_in, fact_in, parts, sheet_in}
 use Rattle.lines.specs.Text.{key_line, depth_text, depth_line, fact_line, told, model_lines, sheet_lines, newline, fields}
 use Rattle.pages.specs.Tables.{key_text, fact_text, table_text, values_in, depth_part, depths_text}
 
+groups : (p a b c : Bytes) → ((p ++ a) ++ b) ++ c ≡ p ++ (a ++ (b ++ c))
+groups p a b c = simp append_assoc
+
 -- ---- the elements that keys yield
 
 same_test : (a b : Bool) → (T a → T b) → (T b → T a) → a ≡ b
@@ -84,12 +87,12 @@ module _ (s : Bytes) where
         ∙ ap (λ n. flat (map (depth_line m) (keep (known m) (from 0 n)))) (sym depths_long)
 
     -- What is written, table by table, is what the sheet says.
-    pub model_parts : (table_text key_text 16 keys s ++ depths_text keys elements s) ++ table_text fact_text 1040 facts s ≡ model_lines m
+    pub model_parts : (p : Bytes) → ((p ++ table_text key_text 16 keys s) ++ depths_text keys elements s) ++ table_text fact_text 1040 facts s ≡ p ++ model_lines m
     unfolding model_lines
-    model_parts =
-        append_assoc (table_text key_text 16 keys s) (depths_text keys elements s) (table_text fact_text 1040 facts s)
-        ∙ ap₂ (λ (a b : Bytes). a ++ b) keys_are_lem (ap₂ (λ (a b : Bytes). a ++ b) depths_are facts_are_lem)
+    model_parts p =
+        groups p (table_text key_text 16 keys s) (depths_text keys elements s) (table_text fact_text 1040 facts s)
+        ∙ ap₂ (λ (a b : Bytes). p ++ (a ++ b)) keys_are_lem (ap₂ (λ (a b : Bytes). a ++ b) depths_are facts_are_lem)
 
-pub sheet_parts : (w s : Bytes) → ((w ++ fields (num s 0 ∷ [])) ++ newline) ++ model_lines (sheet_in limits s).model ≡ sheet_lines w (sheet_in limits s)
+pub sheet_parts : (p w s : Bytes) → (((p ++ w) ++ fields (num s 0 ∷ [])) ++ newline) ++ model_lines (sheet_in limits s).model ≡ p ++ sheet_lines w (sheet_in limits s)
 unfolding sheet_lines sheet_in
-sheet_parts w s = simp append_assoc
+sheet_parts p w s = simp append_assoc

@@ -1,10 +1,12 @@
 -- The listing's text off bytes, part by part as code writes it: tables of entries, depths, lists of slots. One law for a turn of each loop.
-use Rattle.std.specs.Prelude.{◌≡◌, refl, ℕ, zero, suc, ◌+◌, ◌*◌, ◌≤◌, ◌<◌, true, false, ◌||◌, get_or, eqb}
+use Rattle.std.specs.Prelude.{◌≡◌, refl, ℕ, zero, suc, ◌+◌, ◌*◌, ◌<◌, true, false, ◌||◌, get_or, eqb}
 use Rattle.std.proofs.Math.Path.{sym, ap, ap₂}
-use Rattle.std.proofs.Common.{◌∙◌, zero-add, arith, add-one, drop_of_length-le, drop-drop, get_or-drop, get_or-take, eq-eqb, ne_eqb}
+use Rattle.std.proofs.Common.{◌∙◌, zero-add, arith, add-one, drop-drop, get_or-drop, get_or-take}
+use Rattle.std.proofs.lemmas.Bool.Decides.{nat_tests}
+use Rattle.std.specs.List.{list_any, range_with_len}
 use mathlib.Core.List.{List, [], ◌∷◌, ◌++◌, map, append_assoc, append-nil}
-use Rattle.std.proofs.Math.ListN.{length, take, drop, length-drop}
-use Rattle.std.proofs.Math.Seq.{drop-cons, take-suc}
+use Rattle.std.proofs.Math.ListN.{length, take, drop}
+use Rattle.std.proofs.Math.Seq.{take-suc}
 use Rattle.base.specs.Branch.{if}
 use Rattle.base.specs.Lists.{any, mem, from, flat}
 use Rattle.base.specs.ListLaws.{map_append}
@@ -14,7 +16,6 @@ use Rattle.rules.specs.Pool.{sheet_at}
 use Rattle.rules.specs.Image.{key_in, fact_in, parts, pool_in}
 use Rattle.images.specs.Regions.{flat_append}
 use Rattle.lines.specs.Text.{fields, key_line, depth_text, fact_line, sheet_lines, stop_word, steps_word, waiting_word, newline}
-use Rattle.lines.specs.Wrote.{Wrote, wrote_next, wrote_as}
 
 -- ---- the parts
 
@@ -74,25 +75,22 @@ unfolding from
 from_last a zero = let e : a + 0 ≡ a = omega arith in rw e
 from_last a (suc n) = let e : a + suc n ≡ suc a + n = omega arith in rw e (ap (λ (l : List ℕ). a ∷ l) (from_last (suc a) n))
 
-module _ {o : Bytes} {n : ℕ} {t : Bytes} {m : ℕ} {u : Bytes} {r : ℕ} where
-  pub table_more : (f : Bytes → Bytes) (at k : ℕ) (s : Bytes) → Wrote o n (table_text f at k s) t m → Wrote t m (f (take 8 (drop (at + 8 * k) s))) u r
-      → Wrote o n (table_text f at (k + 1) s) u r
+-- A text, what was written behind it, and one more.
+more : {A : Type 0} (f : A → Bytes) (p : Bytes) (xs ys : List A) (x : A) → ys ≡ xs ++ (x ∷ []) → (p ++ flat (map f xs)) ++ f x ≡ p ++ flat (map f ys)
+more f p xs ys x e = append_assoc p (flat (map f xs)) (f x) ∙ ap (λ (l : Bytes). p ++ l) (sym (ap (λ (l : List _). flat (map f l)) e ∙ flat_last f xs x))
+
+module _ (p : Bytes) where
+  pub table_more : (f : Bytes → Bytes) (at k : ℕ) (s : Bytes) → (p ++ table_text f at k s) ++ f (take 8 (drop (at + 8 * k) s)) ≡ p ++ table_text f at (k + 1) s
   unfolding table_text
-  table_more f at k s v w = wrote_as _ (sym (ap (λ (l : List Bytes). flat (map f l)) (parts_more at k s) ∙ flat_last f (parts 8 k (drop at s)) (take 8 (drop (at + 8 * k) s)))) (wrote_next v w)
+  table_more f at k s = more f p (parts 8 k (drop at s)) (parts 8 (k + 1) (drop at s)) (take 8 (drop (at + 8 * k) s)) (parts_more at k s)
 
-  pub depths_more : (k e : ℕ) (s : Bytes) → Wrote o n (depths_text k e s) t m → Wrote t m (depth_part k s e) u r → Wrote o n (depths_text k (e + 1) s) u r
+  pub depths_more : (k e : ℕ) (s : Bytes) → (p ++ depths_text k e s) ++ depth_part k s e ≡ p ++ depths_text k (e + 1) s
   unfolding depths_text
-  depths_more k e s v w =
-      wrote_as _ (sym (ap (λ (l : List ℕ). flat (map (depth_part k s) l)) (ap (from 0) (add-one e) ∙ from_last 0 e ∙ ap (λ i. from 0 e ++ (i ∷ [])) (zero-add e)) ∙ flat_last (depth_part k s) (from 0 e) e)) (wrote_next v w)
+  depths_more k e s = more (depth_part k s) p (from 0 e) (from 0 (e + 1)) e (ap (from 0) (add-one e) ∙ from_last 0 e ∙ ap (λ i. from 0 e ++ (i ∷ [])) (zero-add e))
 
-  pub slots_more : (w p : Bytes) (at j : ℕ) → at + j < length p → Wrote o n (slots_text w p (take j (drop at p))) t m → Wrote t m (slot_text w p (get_or p (at + j) 0)) u r
-      → Wrote o n (slots_text w p (take (j + 1) (drop at p))) u r
+  pub slots_more : (w pool slots : Bytes) (j : ℕ) → j < length slots → (p ++ slots_text w pool (take j slots)) ++ slot_text w pool (get_or slots j 0) ≡ p ++ slots_text w pool (take (j + 1) slots)
   unfolding slots_text
-  slots_more w p at j h v x =
-      let l : j < length (drop at p) = omega (arith, length-drop at p) in
-      let e : take (j + 1) (drop at p) ≡ take j (drop at p) ++ (get_or p (at + j) 0 ∷ []) =
-      ap (λ i. take i (drop at p)) (add-one j) ∙ take-suc (drop at p) j 0 l ∙ ap (λ i. take j (drop at p) ++ (i ∷ [])) (get_or-drop at p j 0) in
-      wrote_as _ (sym (ap (λ (l : List ℕ). flat (map (slot_text w p) l)) e ∙ flat_last (slot_text w p) (take j (drop at p)) (get_or p (at + j) 0))) (wrote_next v x)
+  slots_more w pool slots j h = more (slot_text w pool) p (take j slots) (take (j + 1) slots) (get_or slots j 0) (ap (λ i. take i slots) (add-one j) ∙ take-suc slots j 0 h)
 
 -- An element that a key yields, and one that none does.
 pub depth_yielded : (k e : ℕ) (s : Bytes) → mem e (values_in k s) ≡ true → depth_text e (get_or s (2064 + e) 0) ≡ depth_part k s e
@@ -105,56 +103,44 @@ depth_unknown k e s h = sym (ap (λ b. if b (λ _. depth_text e (get_or s (2064 
 
 -- ---- none yet
 
-pub table_none : (f : Bytes → Bytes) (at : ℕ) (s : Bytes) → [] ≡ table_text f at 0 s
+pub table_none : (p : Bytes) (f : Bytes → Bytes) (at : ℕ) (s : Bytes) → p ++ table_text f at 0 s ≡ p
 unfolding table_text parts flat
-table_none f at s = refl
+table_none p f at s = append-nil p
 
-pub depths_none : (k : ℕ) (s : Bytes) → [] ≡ depths_text k 0 s
+pub depths_none : (p : Bytes) (k : ℕ) (s : Bytes) → p ++ depths_text k 0 s ≡ p
 unfolding depths_text from flat
-depths_none k s = refl
+depths_none p k s = append-nil p
 
-pub slots_none : (w p : Bytes) (at : ℕ) → [] ≡ slots_text w p (take 0 (drop at p))
+pub slots_none : (p w pool : Bytes) → p ++ slots_text w pool [] ≡ p
 unfolding slots_text flat
-slots_none w p at = refl
+slots_none p w pool = append-nil p
 
 -- ---- a value among those of the keys
 
-values_at : (k at i : ℕ) (s : Bytes) → i < k → get_or (map (λ (e : Bytes). get_or e 7 0) (parts 8 k (drop at s))) i 0 ≡ get_or s (at + 7 + 8 * i) 0
+same_eqb : (a b : ℕ) → eqb a b ≡ eqb b a
+same_eqb a b = grind (arith, nat_tests)
+
+-- Keys from the j-th on: each has its value at its eighth byte.
+values_from : (k j e : ℕ) (s : Bytes)
+    → list_any (λ i. eqb (get_or s (16 + 8 * i + 7) 0) e) (range_with_len j k) ≡ any (eqb e) (map (λ (x : Bytes). get_or x 7 0) (parts 8 k (drop (16 + 8 * j) s)))
 unfolding parts
-values_at zero at i s h = absurd (omega arith)
-values_at (suc k) at zero s h = let e : at + 7 + 8 * 0 ≡ at + 7 = omega arith in rw e (get_or-take 8 (drop at s) 7 0 (omega arith) ∙ get_or-drop at s 7 0)
-values_at (suc k) at (suc i) s h =
-    let e : at + 8 + 7 + 8 * i ≡ at + 7 + 8 * suc i = omega arith in
-    ap (λ (l : Bytes). get_or (map (λ (e : Bytes). get_or e 7 0) (parts 8 k l)) i 0) (drop-drop 8 at s) ∙ values_at k (at + 8) i s (omega arith) ∙ ap (λ j. get_or s j 0) e
+values_from zero j e s = refl
+values_from (suc k) j e s =
+    let d : drop 8 (drop (16 + 8 * j) s) ≡ drop (16 + 8 * (j + 1)) s = drop-drop 8 (16 + 8 * j) s ∙ ap (λ n. drop n s) (omega arith) in
+    let h : get_or (take 8 (drop (16 + 8 * j) s)) 7 0 ≡ get_or s (16 + 8 * j + 7) 0 = get_or-take 8 (drop (16 + 8 * j) s) 7 0 (omega arith) ∙ get_or-drop (16 + 8 * j) s 7 0 in
+    ap₂ ◌||◌ (same_eqb (get_or s (16 + 8 * j + 7) 0) e ∙ ap (eqb e) (sym h))
+    (values_from k (j + 1) e s ∙ ap (λ (l : Bytes). any (eqb e) (map (λ (x : Bytes). get_or x 7 0) (parts 8 k l))) (sym d))
 
-values_length : (k : ℕ) (s : Bytes) → length (map (λ (e : Bytes). get_or e 7 0) (parts 8 k s)) ≡ k
-unfolding parts
-values_length zero s = refl
-values_length (suc k) s = ap suc (values_length k (drop 8 s))
-
-module _ (k : ℕ) (s : Bytes) (e i : ℕ) (so : mem e (values_in k s) ≡ mem e (drop i (values_in k s))) where
-  here : i < k → drop i (values_in k s) ≡ get_or s (23 + 8 * i) 0 ∷ drop (i + 1) (values_in k s)
-  unfolding values_in
-  here h = drop-cons _ i 0 (omega (arith, values_length k (drop 16 s))) ∙ ap₂ (λ (v : ℕ) (j : ℕ). v ∷ drop j (values_in k s)) (values_at k 16 i s h) (sym (add-one i))
-
-  pub value_here : i < k → get_or s (23 + 8 * i) 0 ≡ e → true ≡ mem e (values_in k s)
-  unfolding mem
-  value_here h q = sym (so ∙ ap (mem e) (here h) ∙ ap (λ b. b || any (eqb e) (drop (i + 1) (values_in k s))) (eq-eqb e (get_or s (23 + 8 * i) 0) (sym q)))
-
-  pub value_there : i < k → (get_or s (23 + 8 * i) 0 ≡ e → ⊥) → mem e (values_in k s) ≡ mem e (drop (i + 1) (values_in k s))
-  unfolding mem
-  value_there h q = so ∙ ap (mem e) (here h) ∙ ap (λ b. b || any (eqb e) (drop (i + 1) (values_in k s))) (ne_eqb e (get_or s (23 + 8 * i) 0) (λ z. q (sym z)))
-
-  pub value_none : k ≤ i → false ≡ mem e (values_in k s)
-  unfolding mem values_in
-  value_none h = sym (so ∙ ap (mem e) (drop_of_length-le (values_in k s) {i = i} (omega (arith, values_length k (drop 16 s)))))
+pub values_are : (k e : ℕ) (s : Bytes) → list_any (λ i. eqb (get_or s (16 + 8 * i + 7) 0) e) (range_with_len 0 k) ≡ mem e (values_in k s)
+unfolding mem values_in
+values_are k e s = values_from k 0 e s
 
 -- ---- the first line and the last
 
-pub stop_parts : (stop steps : ℕ) → (((stop_word ++ fields (stop ∷ [])) ++ steps_word) ++ fields (steps ∷ [])) ++ newline ≡ stop_line stop steps
+pub stop_parts : (p : Bytes) (stop steps : ℕ) → ((((p ++ stop_word) ++ fields (stop ∷ [])) ++ steps_word) ++ fields (steps ∷ [])) ++ newline ≡ p ++ stop_line stop steps
 unfolding stop_line
-stop_parts stop steps = simp append_assoc
+stop_parts p stop steps = simp append_assoc
 
-pub waiting_parts : (n : ℕ) → (waiting_word ++ fields (n ∷ [])) ++ newline ≡ waiting_line n
+pub waiting_parts : (p : Bytes) (n : ℕ) → ((p ++ waiting_word) ++ fields (n ∷ [])) ++ newline ≡ p ++ waiting_line n
 unfolding waiting_line
-waiting_parts n = append_assoc waiting_word (fields (n ∷ [])) newline
+waiting_parts p n = simp append_assoc

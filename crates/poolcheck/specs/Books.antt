@@ -1,8 +1,7 @@
 -- A pool for an accepted book: its names are those of the head, its sequents as many as the count; and the accepted lengths.
 use Rattle.std.specs.Prelude.{◌≡◌, ℕ, ◌+◌, ◌-◌, ◌*◌, ◌/◌, ◌≤◌, ◌<◌, Bool, true, false, ◌&&◌, length, T, leb, eqb}
 use Rattle.std.proofs.Common.{sym, ◌∙◌, eqb→eq, leb→le}
-use Rattle.std.proofs.Math.Path.{ap₂}
-use Rattle.base.specs.Branch.{if}
+use Rattle.std.proofs.Math.Path.{ap, ap₂}
 use Rattle.base.specs.BranchLaws.{and_l, and_r}
 use Rattle.rules.specs.Book.{Book, Names}
 use Rattle.rules.specs.Reading.{Bytes, num}
@@ -16,7 +15,6 @@ use Rattle.texts.specs.Names.{names_in, count_at}
 use Rattle.texts.specs.Heads.{Accepted}
 use Rattle.texts.specs.Texts.{sequents_got}
 use Rattle.sheetparts.specs.Tests.{byte_at}
-use Rattle.sheetparts.specs.Ways.{on, off}
 use Rattle.poolparts.specs.Tests.{frame_right, slots_right}
 use Rattle.poolcheck.specs.Pools.{pool_test}
 
@@ -32,18 +30,18 @@ module _ (book p : Bytes) (n : ℕ) (len : length p ≡ 208 + 2128 * n) (bytes :
   abbrev spots : ℕ
   spots = places (strategy_of (byte_at p 6)) (num book (count_at book))
 
-  tested : if (frame_right p n) (λ _. slots_right (names_in book) spots p n) (λ _. false) ≡ sound limits b p
+  tested : frame_right p n && slots_right (names_in book) spots p n ≡ sound limits b p
   unfolding pool_in
   tested =
       let c = (sequents_got book b ok).1 in
-      ap₂ (λ (d : Names) (k : ℕ). if (frame_right p n) (λ _. slots_right d (places (strategy_of (byte_at p 6)) k) p n) (λ _. false)) (sym ok.head.are) (sym c)
+      ap₂ (λ (d : Names) (k : ℕ). frame_right p n && slots_right d (places (strategy_of (byte_at p 6)) k) p n) (sym ok.head.are) (sym c)
       ∙ pool_test b p n len bytes
 
   pub slots_out : frame_right p n ≡ true → slots_right (names_in book) spots p n ≡ sound limits b p
-  slots_out e = sym (on (frame_right p n) _ _ e) ∙ tested
+  slots_out e = sym (ap (λ a. a && slots_right (names_in book) spots p n) e) ∙ tested
 
   pub frame_out : frame_right p n ≡ false → false ≡ sound limits b p
-  frame_out e = sym (off (frame_right p n) _ _ e) ∙ tested
+  frame_out e = sym (ap (λ a. a && slots_right (names_in book) spots p n) e) ∙ tested
 
 -- What the check of a pool answers, for every book that the text is read as.
 abbrev pub PoolSound : Bytes → Bytes → Bool → Type 0

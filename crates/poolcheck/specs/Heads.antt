@@ -1,11 +1,11 @@
 -- The head of a pool is the image of what it says exactly if mark, version and unused bytes are right, each list has at most 64 slots,
 -- and zeros stand behind it.
-use Rattle.std.specs.Prelude.{◌≡◌, ℕ, ◌+◌, ◌-◌, ◌*◌, ◌/◌, ◌%◌, ◌≤◌, ◌<◌, min, false, [], ◌∷◌, ◌++◌, drop, T, ltb, eqb}
+use Rattle.std.specs.Prelude.{◌≡◌, ℕ, ◌+◌, ◌-◌, ◌*◌, ◌/◌, ◌%◌, ◌≤◌, ◌<◌, min, [], ◌∷◌, ◌++◌, drop, T, ltb, eqb}
 use Rattle.std.proofs.Math.Path.{sym, ap, ap₂}
-use Rattle.std.proofs.Common.{◌∙◌, arith, length-append, eqb→eq, ltb→lt, lt→ltb, nltb→le}
+use Rattle.std.proofs.Common.{◌∙◌, arith, length-append, eqb→eq, ltb→lt, lt→ltb, le→leb}
+use Rattle.std.proofs.Math.Dec.{leb, leb→le}
 use Rattle.std.proofs.Math.ListN.{length, length-take}
 use Rattle.std.proofs.Math.Seq.{take-take}
-use Rattle.base.specs.Branch.{if}
 use Rattle.base.specs.Lists.{from}
 use Rattle.base.specs.BranchLaws.{eq→eqb}
 use Rattle.rules.specs.Reading.{Bytes, num}
@@ -17,7 +17,6 @@ use Rattle.sheetparts.specs.Loops.{up_to}
 use Rattle.sheetparts.specs.Tests.{byte_at, zeros}
 use Rattle.sheetcheck.specs.Regions.{join_split, part_length, part_join, part_row, region_front, front_region}
 use Rattle.sheetcheck.specs.Tables.{both_of, of_both}
-use Rattle.sheetcheck.specs.Sheets.{past_of, of_past}
 use Rattle.poolparts.specs.Tests.{mark_number, list_room, list_right, in_range, lists_right, next_of, frame_right, row_at}
 
 -- ---- what the head's tests say
@@ -30,15 +29,14 @@ pub record ListSays (p : Bytes) (slots at n : ℕ) : Type 0 where
 list_says : (p : Bytes) (slots at n : ℕ) → T (list_right p slots at n) → ListSays p slots at n
 unfolding list_right list_room
 list_says p slots at n t =
-    let a = both_of (if (ltb 64 n) (λ _. false) (λ _. zeros p (at + n) (64 - n))) (in_range p slots at n) t in
-    let b = past_of (ltb 64 n) (zeros p (at + n) (64 - n)) a.0 in
-    record { few = nltb→le 64 n b.0; room = b.1; inside = a.1 }
+    let a = both_of (list_room p at n) (in_range p slots at n) t in
+    let b = both_of (leb n 64) (zeros p (at + n) (64 - n)) a.0 in
+    record { few = leb→le n 64 b.0; room = b.1; inside = a.1 }
 
 says_list : (p : Bytes) (slots at n : ℕ) → ListSays p slots at n → T (list_right p slots at n)
 unfolding list_right list_room
 says_list p slots at n g =
-    of_both (if (ltb 64 n) (λ _. false) (λ _. zeros p (at + n) (64 - n))) (in_range p slots at n)
-    (of_past (ltb 64 n) (zeros p (at + n) (64 - n)) (λ t. let l = ltb→lt 64 n t in let f = g.few in omega arith) g.room) g.inside
+    of_both (list_room p at n) (in_range p slots at n) (of_both (leb n 64) (zeros p (at + n) (64 - n)) (le→leb n 64 g.few) g.room) g.inside
 
 pub record Frame (p : Bytes) (slots : ℕ) : Type 0 where
   pub mark : mark_number p ≡ 21775437
@@ -55,14 +53,14 @@ frame_says p slots t =
     let a = both_of (eqb (mark_number p) 21775437) _ t in
     let b = both_of (ltb (byte_at p 5) 2) _ a.1 in
     let c = both_of (ltb (byte_at p 6) 2) _ b.1 in
-    let d = past_of (ltb 65536 (next_of p)) _ c.1 in
+    let d = both_of (leb (next_of p) 65536) _ c.1 in
     let e = both_of (list_right p slots 16 (byte_at p 12)) _ d.1 in
     let f = both_of (list_right p slots 80 (byte_at p 13)) _ e.1 in
     record {
       mark = eqb→eq (mark_number p) 21775437 a.0;
       scheduler = ltb→lt (byte_at p 5) 2 b.0;
       strategy = ltb→lt (byte_at p 6) 2 c.0;
-      next = nltb→le 65536 (next_of p) d.0;
+      next = leb→le (next_of p) 65536 d.0;
       waiting = list_says p slots 16 (byte_at p 12) e.0;
       complete = list_says p slots 80 (byte_at p 13) f.0;
       bounded = list_says p slots 144 (byte_at p 14) f.1;
@@ -74,7 +72,7 @@ says_frame p slots g =
     of_both (eqb (mark_number p) 21775437) _ (eq→eqb (mark_number p) 21775437 g.mark)
     (of_both (ltb (byte_at p 5) 2) _ (lt→ltb (byte_at p 5) 2 g.scheduler)
     (of_both (ltb (byte_at p 6) 2) _ (lt→ltb (byte_at p 6) 2 g.strategy)
-    (of_past (ltb 65536 (next_of p)) _ (λ t. let l = ltb→lt 65536 (next_of p) t in let n = g.next in omega arith)
+    (of_both (leb (next_of p) 65536) _ (le→leb (next_of p) 65536 g.next)
     (of_both (list_right p slots 16 (byte_at p 12)) _ (says_list p slots 16 (byte_at p 12) g.waiting)
     (of_both (list_right p slots 80 (byte_at p 13)) _ (says_list p slots 80 (byte_at p 13) g.complete) (says_list p slots 144 (byte_at p 14) g.bounded))))))
 

@@ -1,17 +1,16 @@
 -- A pool: the tests on its bytes, frame and slots, come to the definition: the bytes are the image of what they say, and that is sound
 -- for the book. A listed slot is counted by the lists; what each slot must be is `Tidy`.
-use Rattle.std.specs.Prelude.{◌≡◌, refl, false, ◌&&◌, take, drop, replicate, ltb, eqb}
+use Rattle.std.specs.Prelude.{◌≡◌, refl, Bool, true, false, not, ◌&&◌, ◌||◌, take, drop, replicate, ltb, eqb}
 use Rattle.std.proofs.Math.Path.{sym, ap, ap₂, subst}
-use Rattle.std.proofs.Common.{◌∙◌, take_all}
+use Rattle.std.proofs.Common.{◌∙◌, take_all, inl, inr}
 use Prim.Native.Nat.{ℕ, zero, suc, ◌+◌, ◌-◌, ◌*◌, ◌≤◌, ◌<◌}
 use Rattle.std.proofs.Math.Decide.{dec_le}
 use native.Mathlib.Omega.{arith}
 use mathlib.Core.List.{List, [], ◌++◌, map, append-nil}
 use Rattle.std.proofs.Math.ListN.{length, get_or, length-drop, length-map, take-append-drop, get_or-eq_default}
 use Rattle.std.proofs.Math.Dec.{T, eqb→eq, ltb→lt, lt→ltb}
-use Rattle.base.specs.Branch.{if}
 use Rattle.base.specs.Lists.{All, flat, from, equal}
-use Rattle.base.specs.BranchLaws.{if_elim, and_l, and_r, and_i, eq→eqb, neqb→ne}
+use Rattle.base.specs.BranchLaws.{if_elim, and_l, and_r, and_i, or_is, eq→eqb, neqb→ne}
 use Rattle.base.specs.ListLaws.{map_map, all_map, all_unmap, equal_eq, equal_self}
 use Rattle.pools.specs.Count.{cnt, cnt_append, all_cnt, from_all, all_from}
 use Rattle.pools.specs.Tidy.{Tidy, Listed, places_of, tidy, tidy_sound}
@@ -194,13 +193,19 @@ module _ (b : Book) (p : Bytes) (n : ℕ) (len : length p ≡ 208 + 2128 * n) (b
 
   apart : (i j : ℕ) → T (differs p i) → j < i → num p (start_of j) ≡ num p (start_of i) → listed p j ≡ 0
   unfolding differs other_at
-  apart i j t h e = if_elim (λ x. T x → listed p j ≡ 0) (eqb (num p (start_of j)) (num p (start_of i))) _ _ (λ _ u. eqb→eq (listed p j) 0 u)
-      (λ q _. absurd (neqb→ne (num p (start_of j)) (num p (start_of i)) q e)) (every_at (other_at p i) i t j h)
+  apart i j t h e = elim (or_is (not (eqb (num p (start_of j)) (num p (start_of i)))) (eqb (listed p j) 0) (every_at (other_at p i) i t j h)) [
+    | inl q ↦ absurd (neqb→ne (num p (start_of j)) (num p (start_of i)) q e)
+    | inr u ↦ eqb→eq (listed p j) 0 u
+  ]
 
   differ_all : (i : ℕ) → ((j : ℕ) → j < i → num p (start_of j) ≡ num p (start_of i) → listed p j ≡ 0) → T (differs p i)
   unfolding differs other_at
-  differ_all i f = at_every (other_at p i) i (λ j h. if_elim T (eqb (num p (start_of j)) (num p (start_of i))) _ _
-      (λ q. eq→eqb (listed p j) 0 (f j h (eqb→eq (num p (start_of j)) (num p (start_of i)) q))) (λ _. tt))
+  differ_all i f = at_every (other_at p i) i (λ j h. or_from (eqb (num p (start_of j)) (num p (start_of i))) (eqb (listed p j) 0)
+      (λ q. eq→eqb (listed p j) 0 (f j h (eqb→eq (num p (start_of j)) (num p (start_of i)) q))))
+    where
+      or_from : (a b : Bool) → (T a → T b) → T (not a || b)
+      or_from true b g = g tt
+      or_from false b g = tt
 
   within : Frame p n → (j : ℕ) → 1 ≤ listed p j → j < n
   unfolding listed
@@ -313,11 +318,11 @@ module _ (b : Book) (p : Bytes) (n : ℕ) (len : length p ≡ 208 + 2128 * n) (b
 
   -- ---- the whole
 
-  pub pool_test : if (frame_right p n) (λ _. slots_right d pl p n) (λ _. false) ≡ sound limits b p
+  pub pool_test : frame_right p n && slots_right d pl p n ≡ sound limits b p
   unfolding sound slots_right
-  pool_test = same_test (if (frame_right p n) (λ _. slots_right d pl p n) (λ _. false)) (sound limits b p) forth back
+  pool_test = same_test (frame_right p n && slots_right d pl p n) (sound limits b p) forth back
     where
-      forth : T (if (frame_right p n) (λ _. slots_right d pl p n) (λ _. false)) → T (equal (pool_bytes limits s) p && sound_state limits b s)
+      forth : T (frame_right p n && slots_right d pl p n) → T (equal (pool_bytes limits s) p && sound_state limits b s)
       forth u =
           let a = both_of (frame_right p n) (slots_right d pl p n) u in
           let f = frame_says p n a.0 in
@@ -325,7 +330,7 @@ module _ (b : Book) (p : Bytes) (n : ℕ) (len : length p ≡ 208 + 2128 * n) (b
           and_i (equal (pool_bytes limits s) p) (sound_state limits b s) (subst (λ l. T (equal l p)) (sym (images_pool n f (λ i h. slot_image i h (g i h)))) (equal_self p))
           (tidy_sound limits b s (tests_tidy f g))
 
-      back : T (equal (pool_bytes limits s) p && sound_state limits b s) → T (if (frame_right p n) (λ _. slots_right d pl p n) (λ _. false))
+      back : T (equal (pool_bytes limits s) p && sound_state limits b s) → T (frame_right p n && slots_right d pl p n)
       back u =
           let e = equal_eq (pool_bytes limits s) p (and_l (equal (pool_bytes limits s) p) (sound_state limits b s) u) in
           let t = tidy limits b s (and_r (equal (pool_bytes limits s) p) (sound_state limits b s) u) in

@@ -1,28 +1,27 @@
 -- The ways out of the tests of a pool, one law for each.
-use Rattle.std.specs.Prelude.{◌≡◌, refl, ℕ, zero, suc, ◌+◌, ◌-◌, ◌≤◌, ◌<◌, max, map, drop}
+use Rattle.std.specs.Prelude.{◌≡◌, refl, ℕ, ◌+◌, ◌-◌, ◌≤◌, ◌<◌, max, map, drop}
 use Rattle.std.proofs.Common.{sym, ◌∙◌}
 use Rattle.std.proofs.Math.Path.{ap}
 use native.Mathlib.Omega.{arith}
 use Rattle.pools.specs.Count.{hit, cnt, hit_self, hit_other}
-use Rattle.rules.specs.Fire.{places}
-use Rattle.rules.specs.Pool.{strategy_of}
+use Rattle.rules.specs.Fire.{linear, fair, places}
 use Rattle.std.proofs.Math.ListN.{length, take}
 use Rattle.rules.specs.Reading.{Bytes}
 use Rattle.rules.specs.Image.{part, sheet_size}
-use Rattle.sheetparts.specs.Tests.{limited, Fair}
+use Rattle.sheetparts.specs.Tests.{Fair}
+use Rattle.rules.specs.Sheet.{limits}
 use Rattle.sheetcheck.specs.Regions.{part_length}
 use Rattle.sheetparts.specs.Loops.{up_to, up_next, up_end}
 
 -- ---- places
 
-pub one_place : (st n : ℕ) → st ≡ 0 → 1 ≡ places (strategy_of st) n
-unfolding places strategy_of
-one_place st n e = rw e
+pub one_place : (n : ℕ) → 1 ≡ places linear n
+unfolding places
+one_place n = refl
 
-pub fair_places : (st n : ℕ) → (st ≡ 0 → ⊥) → max 1 n ≡ places (strategy_of st) n
-unfolding places strategy_of
-fair_places zero n z = absurd (z refl)
-fair_places (suc st) n z = refl
+pub fair_places : (n : ℕ) → max 1 n ≡ places fair n
+unfolding places
+fair_places n = refl
 
 -- ---- counting: r so far, and the rest
 
@@ -43,7 +42,8 @@ module _ (f : ℕ → ℕ) (i j n r : ℕ) (w : ℕ) (e : w ≡ r + cnt i (map f
 
 -- ---- a slot lent on
 
-pub fair_limits : Fair (limited 64 128 128)
+pub fair_limits : Fair limits
+unfolding limits
 fair_limits = record { elements = omega arith; keys = omega arith; facts = omega arith }
 
 module _ (a : ℕ) (p : Bytes) where
@@ -51,6 +51,6 @@ module _ (a : ℕ) (p : Bytes) where
   unfolding part
   lent_part = let e : a + 2128 - a ≡ 2128 = omega arith in ap (λ n. take n (drop a p)) e
 
-  pub lent_length : a + 2128 ≤ length p → length (take (a + 2128 - a) (drop a p)) ≡ sheet_size (limited 64 128 128)
-  unfolding sheet_size
+  pub lent_length : a + 2128 ≤ length p → length (take (a + 2128 - a) (drop a p)) ≡ sheet_size limits
+  unfolding sheet_size limits
   lent_length h = ap length lent_part ∙ part_length a 2128 p h

@@ -1,5 +1,5 @@
 -- What a run's answer and pool print: a run stops by 0 or by a number from 14 on (pools.Stops), and a smaller stop is a refusal.
-use Rattle.std.specs.Prelude.{◌≡◌, ℕ, ◌≤◌, ◌<◌, ltb, eqb}
+use Rattle.std.specs.Prelude.{◌≡◌, refl, ℕ, zero, suc, ◌≤◌, ◌<◌, ltb, eqb}
 use Rattle.std.proofs.Math.Path.{sym}
 use Rattle.std.proofs.Common.{◌∙◌, arith, inl, inr, lt-ltb, le-ltb, eq-eqb, ne_eqb}
 use Rattle.base.specs.Branch.{if}
@@ -32,3 +32,8 @@ module _ (stop steps : ℕ) (p : Bytes) where
 pub ran_listing : (stop steps : ℕ) (p : Bytes) → Stops stop → ran_text stop steps p ≡ listing stop steps (pool_in limits p)
 ran_listing stop steps p (inl z) = sym (ran_zero stop steps p z)
 ran_listing stop steps p (inr l) = sym (ran_stopped stop steps p (λ z. omega (arith, l.0)) l.0)
+
+-- What is no refusal is listed.
+pub ran_listed : (stop steps : ℕ) (p : Bytes) → (1 ≤ stop → 14 ≤ stop) → listing stop steps (pool_in limits p) ≡ ran_text stop steps p
+ran_listed zero steps p h = ran_zero zero steps p refl
+ran_listed (suc n) steps p h = ran_stopped (suc n) steps p (λ z. absurd (omega arith)) (h (omega arith))

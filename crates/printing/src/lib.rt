@@ -3,57 +3,74 @@
 // specs/Printed.antt.
 #![tactic(auto)]
 
-ghost use Rattle.std.specs.Prelude.{◌≡◌, ◌+◌, ◌*◌, ◌≤◌, length};
+ghost use Rattle.std.specs.Prelude.{◌≡◌, ◌+◌, ◌*◌, ◌≤◌, ◌++◌, length};
 ghost use Rattle.rules.specs.Sheet.{limits};
 ghost use Rattle.rules.specs.Image.{pool_in};
 ghost use Rattle.lines.specs.Printed.{printed};
-ghost use Rattle.lines.specs.Wrote.{Wrote};
 ghost use Rattle.printing.specs.Stops.{ran_text};
 ghost use Rattle.printing.specs.Opening.{Opened};
 
+use limits::{HEAD, SLOT};
+use lines::Page;
+use pages::{OTHER_LINES, SHEET_LINES};
 use words::{byte, num32};
 
+// The bytes of the settings, and of what is read: one more than the settings and the longest book, to tell a book that is too long.
+const SETTINGS: usize = 8;
+
+pub const INPUT: usize = SETTINGS + 32768 + 1;
+
+// The slots of the pool, its bytes, and the most bytes that a text takes.
+const SLOTS: usize = 12;
+
+pub const POOL: usize = HEAD + SLOT * SLOTS;
+
+pub const TEXT: usize = SHEET_LINES * SLOTS + OTHER_LINES;
+
+// The most steps that a run takes.
+const BUDGET: u32 = 1000;
+
 // A run's answer and pool: the refusal's line alone, or the listing.
-fn ran_text(pool: &[u8], stop: u32, steps: u32, out: &mut [u8]) -> usize
-    requires { (208 ≤ length pool.now) × (8468 * (length (pool_in limits pool.now).complete + length (pool_in limits pool.now).bounded) + 45 ≤ length out.old) }
-    ensures { Wrote out.old 0 (ran_text stop steps pool.now) out.new result }
+fn ran_text<const N: usize>(pool: &[u8], stop: u32, steps: u32, page: &mut Page<N>)
+    requires { (HEAD ≤ length pool.now) × (length page.old + SHEET_LINES * (length (pool_in limits pool.now).complete + length (pool_in limits pool.now).bounded) + OTHER_LINES ≤ N) }
+    ensures { page.new ≡ page.old ++ ran_text stop steps pool.now }
 {
-    if stop == 0 {
-        return pages::listing(pool, stop, steps, out);
+    if (1..14).contains(&stop) {
+        page.refusal(stop as u64);
+    } else {
+        pages::listing(pool, stop, steps, page);
     }
-    if stop < 14 {
-        return lines::refusal(out, 0, stop as u64);
-    }
-    pages::listing(pool, stop, steps, out)
 }
 
 // The text behind an opened pool.
-fn opened_text(input: &[u8], pool: &mut [u8], out: &mut [u8]) -> usize
-    requires { Opened input.now pool.old × ((length pool.old ≡ 25744) × (101661 ≤ length out.old)) }
-    ensures { Wrote out.old 0 (printed input.now) out.new result }
+fn opened_text<const N: usize>(input: &[u8], pool: &mut [u8], page: &mut Page<N>)
+    requires { Opened input.now pool.old × (length pool.old ≡ POOL) × (length page.old + TEXT ≤ N) }
+    ensures { page.new ≡ page.old ++ printed input.now }
 {
     let bound = byte(input, 2) as u32;
     let number = num32(input, 4) as u32;
-    let ran = running::run(&input[8..], pool, bound, number, 1000);
-    ran_text(pool, ran.stop, ran.steps, out)
+    let ran = running::run(&input[SETTINGS..], pool, bound, number, BUDGET);
+    ran_text(pool, ran.stop, ran.steps, page);
 }
 
 // The text of an input.
-pub fn text(input: &[u8], pool: &mut [u8], out: &mut [u8]) -> usize
-    requires { (length pool.old ≡ 25744) × (101661 ≤ length out.old) }
-    ensures { Wrote out.old 0 (printed input.now) out.new result }
+pub fn text<const N: usize>(input: &[u8], pool: &mut [u8], page: &mut Page<N>)
+    requires { (length pool.old ≡ POOL) × (length page.old + TEXT ≤ N) }
+    ensures { page.new ≡ page.old ++ printed input.now }
 {
-    if input.len() < 8 {
-        return lines::refusal(out, 0, 2);
+    if input.len() < SETTINGS {
+        page.refusal(2);
+        return;
     }
     let scheduler = byte(input, 0) as u32;
     let strategy = byte(input, 1) as u32;
-    let refused = openings::open(&input[8..], pool, scheduler, strategy);
-    if refused != 0 {
-        return lines::refusal(out, 0, refused as u64);
+    if let Err(refusal) = openings::open(&input[SETTINGS..], pool, scheduler, strategy) {
+        page.refusal(u64::from(u32::from(refusal)));
+        return;
     }
     if byte(input, 3) != 0 {
-        return lines::refusal(out, 0, 12);
+        page.refusal(12);
+        return;
     }
-    opened_text(input, pool, out)
+    opened_text(input, pool, page);
 }

@@ -1,7 +1,6 @@
 -- Numbers in order, and one element renamed in a table of them, place by place.
 pub mod Order
 pub mod Place
-pub mod Windows
 pub mod Parting
 pub mod Bringing
 pub mod Table

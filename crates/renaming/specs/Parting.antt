@@ -1,6 +1,6 @@
 -- A table's entries parted by a function: those that it leaves as they are, and what it makes of the others. Put in order together
--- they are what it makes of the table. The loop that parts them leaves the first in the table's window and puts the others into
--- the spare one.
+-- they are what it makes of the table. The loop that parts them leaves the first in the table and puts the others into a
+-- spare slice.
 use Rattle.std.specs.Prelude.{◌≡◌, ℕ, suc, ◌+◌, ◌-◌, ◌≤◌, ◌<◌, length, get_or, set, ltb}
 use Rattle.std.proofs.Math.Path.{refl, sym, ap, ap₂}
 use Rattle.std.proofs.Common.{◌∙◌, subst, subst₂, arith, add-one, drop-cons, drop-drop, take-suc-set, drop-set-lt}
@@ -12,11 +12,8 @@ use Rattle.std.proofs.Math.Dec.{ltb→lt, lt→ltb, not_T}
 use Rattle.base.specs.Branch.{if}
 use Rattle.base.specs.Lists.{All}
 use Rattle.base.specs.BranchLaws.{if_true, if_false}
-use Rattle.rules.specs.Image.{part}
-use Rattle.images.specs.Kept.{kept_set, part_set, part_at, part_size}
 use Rattle.renaming.specs.Order.{insert_in, order_in, Sorted, order_middle}
 use Rattle.renaming.specs.Place.{Lowers, Keeps}
-use Rattle.renaming.specs.Windows.{Apart, apart_flip, kept_apart, Elsewhere, elsewhere_none, elsewhere_then, elsewhere_table, elsewhere_spare}
 
 unfoldable pub staying : (ℕ → ℕ) → List ℕ → List ℕ
 staying f [] = []
@@ -72,114 +69,77 @@ module _ (f : ℕ → ℕ) where
 -- ---- the loop
 
 -- After k entries of the table, of which some have gone: the parts so far, with those of what is left, are the whole's.
-pub record Parting (f : ℕ → ℕ) (a n b : ℕ) (w₀ : List ℕ) (k gone : ℕ) (w : List ℕ) : Type 0 where
-  pub passed : k ≤ n
+pub record Parting (f : ℕ → ℕ) (t₀ : List ℕ) (k gone : ℕ) (t c : List ℕ) : Type 0 where
   pub fewer : gone ≤ k
-  pub elsewhere : Elsewhere a b n w₀ w
-  pub stays : take (k - gone) (part a n w) ++ staying f (drop k (part a n w₀)) ≡ staying f (part a n w₀)
-  pub goes : take gone (part b n w) ++ going f (drop k (part a n w₀)) ≡ going f (part a n w₀)
-  pub rest : drop k (part a n w) ≡ drop k (part a n w₀)
+  pub stays : take (k - gone) t ++ staying f (drop k t₀) ≡ staying f t₀
+  pub goes : take gone c ++ going f (drop k t₀) ≡ going f t₀
+  pub rest : drop k t ≡ drop k t₀
 
-pub record Parted (f : ℕ → ℕ) (a n b : ℕ) (w : List ℕ) (gone : ℕ) (w' : List ℕ) : Type 0 where
-  pub fewer : gone ≤ n
-  pub elsewhere : Elsewhere a b n w w'
-  pub stays : take (n - gone) (part a n w') ≡ staying f (part a n w)
-  pub goes : take gone (part b n w') ≡ going f (part a n w)
+pub record Parted (f : ℕ → ℕ) (t : List ℕ) (gone : ℕ) (t' c' : List ℕ) : Type 0 where
+  pub fewer : gone ≤ length t
+  pub stays : take (length t - gone) t' ≡ staying f t
+  pub goes : take gone c' ≡ going f t
 
-module _ (f : ℕ → ℕ) (a n b : ℕ) (w₀ : List ℕ) (fits : a + n ≤ length w₀) (spare : b + n ≤ length w₀) (apart : Apart a n b n) where
-  abbrev X : List ℕ
-  X = part a n w₀
+module _ (f : ℕ → ℕ) (t₀ : List ℕ) where
+  pub parting_start : (c : List ℕ) → Parting f t₀ 0 0 t₀ c
+  parting_start c = record { fewer = omega arith; stays = refl; goes = refl; rest = refl }
 
-  pub parting_start : Parting f a n b w₀ 0 0 w₀
-  parting_start = record { passed = omega arith; fewer = omega arith; elsewhere = elsewhere_none a b n w₀; stays = refl; goes = refl; rest = refl }
-
-  module _ (k gone : ℕ) (w : List ℕ) (p : Parting f a n b w₀ k gone w) (l : k < n) where
+  module _ (k gone : ℕ) (t c : List ℕ) (p : Parting f t₀ k gone t c) (l : k < length t) (room : k < length c) where
     abbrev x : ℕ
-    x = get_or w (a + k) 0
+    x = get_or t k 0
 
-    table : length (part a n w) ≡ n
-    table = part_size a n w (omega (arith, p.elsewhere.size))
+    later : drop (k + 1) t ≡ drop (k + 1) t₀
+    later = sym (drop-drop 1 k t) ∙ ap (drop 1) p.rest ∙ drop-drop 1 k t₀
 
-    room : length (part b n w) ≡ n
-    room = part_size b n w (omega (arith, p.elsewhere.size))
-
-    later : drop (suc k) (part a n w) ≡ drop (suc k) X
-    later =
-        let e : k + 1 ≡ suc k = omega arith in
-        ap (λ j. drop j (part a n w)) (sym e) ∙ sym (drop-drop 1 k (part a n w)) ∙ ap (drop 1) p.rest ∙ drop-drop 1 k X ∙ ap (λ j. drop j X) e
-
-    next : drop k X ≡ x ∷ drop (k + 1) X
-    next =
-        let e : k + 1 ≡ suc k = omega arith in
-        sym p.rest ∙ drop-cons (part a n w) k 0 (omega (arith, table)) ∙ ap₂ (λ (y : ℕ) (ys : List ℕ). y ∷ ys) (part_at a n w k l) (later ∙ ap (λ j. drop j X) (sym e))
-
-    later_one : (w' : List ℕ) → drop (suc k) (part a n w') ≡ drop (suc k) (part a n w) → drop (k + 1) (part a n w') ≡ drop (k + 1) X
-    later_one w' e = rw (add-one k) (e ∙ later)
+    next : drop k t₀ ≡ x ∷ drop (k + 1) t₀
+    next = sym p.rest ∙ drop-cons t k 0 l ∙ ap (λ (ys : List ℕ). x ∷ ys) (ap (λ j. drop j t) (sym (add-one k)) ∙ later)
 
     -- It goes.
-    goes : f x < x → Parting f a n b w₀ (k + 1) (gone + 1) (set w (b + gone) (f x))
+    goes : f x < x → Parting f t₀ (k + 1) (gone + 1) t (set c gone (f x))
     goes h =
-        let w' = set w (b + gone) (f x) in
-        let kept = kept_set b n w gone (f x) (omega (arith, p.fewer)) in
-        let same : part a n w' ≡ part a n w = kept_apart kept a n (apart_flip a n b n apart) in
-        let first = goes_first f x (drop (k + 1) X) h in
-        let c : k + 1 - (gone + 1) ≡ k - gone = omega arith in
-        let front : take (gone + 1) (part b n w') ≡ take gone (part b n w) ++ (f x ∷ []) =
-        rw (add-one gone) (ap (take (suc gone)) (part_set b n w gone (f x) (omega (arith, p.fewer))) ∙ take-suc-set (part b n w) gone (f x) (omega (arith, p.fewer, room))) in
+        let first = goes_first f x (drop (k + 1) t₀) h in
+        let e : k + 1 - (gone + 1) ≡ k - gone = omega arith in
+        let front : take (gone + 1) (set c gone (f x)) ≡ take gone c ++ (f x ∷ []) = rw (add-one gone) (take-suc-set c gone (f x) (omega (arith, p.fewer))) in
         record {
-          passed = omega arith;
           fewer = omega (arith, p.fewer);
-          elsewhere = elsewhere_then p.elsewhere (elsewhere_spare kept);
-          stays =
-              ap₂ (λ (u v : List ℕ). u ++ v) (ap₂ (λ (i : ℕ) (t : List ℕ). take i t) c same) (sym (ap (staying f) next ∙ first.0)) ∙ p.stays;
+          stays = ap₂ (λ (i : ℕ) (v : List ℕ). take i t ++ v) e (sym (ap (staying f) next ∙ first.0)) ∙ p.stays;
           goes =
-              ap (λ (u : List ℕ). u ++ going f (drop (k + 1) X)) front ∙ append_snoc (take gone (part b n w)) (f x) (going f (drop (k + 1) X))
-              ∙ ap (λ (u : List ℕ). take gone (part b n w) ++ u) (sym (ap (going f) next ∙ first.1)) ∙ p.goes;
-          rest = later_one w' (ap (drop (suc k)) same);
+              ap (λ (u : List ℕ). u ++ going f (drop (k + 1) t₀)) front ∙ append_snoc (take gone c) (f x) (going f (drop (k + 1) t₀))
+              ∙ ap (λ (u : List ℕ). take gone c ++ u) (sym (ap (going f) next ∙ first.1)) ∙ p.goes;
+          rest = later;
         }
 
     -- It stays.
-    stays : x ≤ f x → Parting f a n b w₀ (k + 1) gone (set w (a + (k - gone)) x)
+    stays : x ≤ f x → Parting f t₀ (k + 1) gone (set t (k - gone) x) c
     stays h =
-        let stay = k - gone in
-        let w' = set w (a + stay) x in
-        let in_table : stay < n = omega arith in
-        let kept = kept_set a n w stay x in_table in
-        let same : part b n w' ≡ part b n w = kept_apart kept b n apart in
-        let made : part a n w' ≡ set (part a n w) stay x = part_set a n w stay x in_table in
-        let first = stays_first f x (drop (k + 1) X) h in
-        let c : k + 1 - gone ≡ suc (k - gone) = omega (arith, p.fewer) in
-        let front : take (k + 1 - gone) (part a n w') ≡ take stay (part a n w) ++ (x ∷ []) =
-        ap₂ (λ (i : ℕ) (t : List ℕ). take i t) c made ∙ take-suc-set (part a n w) stay x (omega (arith, table)) in
+        let first = stays_first f x (drop (k + 1) t₀) h in
+        let e : k + 1 - gone ≡ suc (k - gone) = omega (arith, p.fewer) in
+        let front : take (k + 1 - gone) (set t (k - gone) x) ≡ take (k - gone) t ++ (x ∷ []) =
+        ap (λ i. take i (set t (k - gone) x)) e ∙ take-suc-set t (k - gone) x (omega arith) in
         record {
-          passed = omega arith;
           fewer = omega (arith, p.fewer);
-          elsewhere = elsewhere_then p.elsewhere (elsewhere_table kept);
           stays =
-              ap (λ (u : List ℕ). u ++ staying f (drop (k + 1) X)) front ∙ append_snoc (take stay (part a n w)) x (staying f (drop (k + 1) X))
-              ∙ ap (λ (u : List ℕ). take stay (part a n w) ++ u) (sym (ap (staying f) next ∙ first.0)) ∙ p.stays;
-          goes =
-              ap₂ (λ (u v : List ℕ). u ++ v) (ap (take gone) same) (sym (ap (going f) next ∙ first.1)) ∙ p.goes;
-          rest = later_one w' (ap (drop (suc k)) made ∙ drop-set-lt (suc k) (part a n w) stay x (omega arith));
+              ap (λ (u : List ℕ). u ++ staying f (drop (k + 1) t₀)) front ∙ append_snoc (take (k - gone) t) x (staying f (drop (k + 1) t₀))
+              ∙ ap (λ (u : List ℕ). take (k - gone) t ++ u) (sym (ap (staying f) next ∙ first.0)) ∙ p.stays;
+          goes = ap (λ (v : List ℕ). take gone c ++ v) (sym (ap (going f) next ∙ first.1)) ∙ p.goes;
+          rest = drop-set-lt (k + 1) t (k - gone) x (omega arith) ∙ later;
         }
 
     -- By what the function makes of it.
-    pub parting_goes : (y : ℕ) → y ≡ f x → y < x → Parting f a n b w₀ (k + 1) (gone + 1) (set w (b + gone) y)
-    parting_goes y e h = subst (λ z. Parting f a n b w₀ (k + 1) (gone + 1) (set w (b + gone) z)) (sym e) (goes (subst (λ z. z < x) e h))
+    pub parting_goes : (y : ℕ) → y ≡ f x → y < x → Parting f t₀ (k + 1) (gone + 1) t (set c gone y)
+    parting_goes y e h = subst (λ z. Parting f t₀ (k + 1) (gone + 1) t (set c gone z)) (sym e) (goes (subst (λ z. z < x) e h))
 
-    pub parting_stays : (y : ℕ) → y ≡ f x → x ≤ y → Parting f a n b w₀ (k + 1) gone (set w (a + (k - gone)) x)
+    pub parting_stays : (y : ℕ) → y ≡ f x → x ≤ y → Parting f t₀ (k + 1) gone (set t (k - gone) x) c
     parting_stays y e h = stays (subst (λ z. x ≤ z) e h)
 
-  pub parting_end : (k gone : ℕ) (w : List ℕ) → Parting f a n b w₀ k gone w → n ≤ k → Parted f a n b w₀ gone w
+  pub parting_end : (k gone : ℕ) (t c : List ℕ) → Parting f t₀ k gone t c → k ≡ length t₀ → Parted f t₀ gone t c
   unfolding staying going
-  parting_end k gone w p h =
-      let e : k ≡ n = omega (arith, p.passed) in
-      let none : drop k X ≡ [] = drop_of_length-le X {i = k} (omega (arith, part_size a n w₀ fits)) in
+  parting_end k gone t c p e =
+      let none : drop k t₀ ≡ [] = drop_of_length-le t₀ {i = k} (omega arith) in
       record {
         fewer = omega (arith, p.fewer);
-        elsewhere = p.elsewhere;
         stays =
-            ap (λ i. take (i - gone) (part a n w)) (sym e) ∙ sym (append-nil (take (k - gone) (part a n w)))
-            ∙ ap (λ (u : List ℕ). take (k - gone) (part a n w) ++ staying f u) (sym none) ∙ p.stays;
-        goes = sym (append-nil (take gone (part b n w))) ∙ ap (λ (u : List ℕ). take gone (part b n w) ++ going f u) (sym none) ∙ p.goes;
+            ap (λ i. take (i - gone) t) (sym e) ∙ sym (append-nil (take (k - gone) t))
+            ∙ ap (λ (u : List ℕ). take (k - gone) t ++ staying f u) (sym none) ∙ p.stays;
+        goes = sym (append-nil (take gone c)) ∙ ap (λ (u : List ℕ). take gone c ++ going f u) (sym none) ∙ p.goes;
       }

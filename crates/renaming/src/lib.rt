@@ -1,19 +1,20 @@
 // One element renamed in a table of packed entries that is in order, so that it is in order again: at one place after another,
 // the entries that change are set apart, which keep their order among themselves, and brought back among those that stay.
-// A place costs two moves for each entry at most. The table is n entries of a slice from a on; n entries from b on are spare.
+// A place costs two moves for each entry at most. What a spare slice holds afterwards is of no use.
 #![tactic(auto)]
 
-ghost use Rattle.std.specs.Prelude.{◌≡◌, ◌+◌, ◌-◌, ◌≤◌, ◌<◌, length};
-ghost use Rattle.rules.specs.Image.{part};
+ghost use Rattle.std.specs.Prelude.{◌≡◌, map, ◌-◌, ◌≤◌, ◌<◌, ◌++◌, length};
 ghost use Rattle.packing.specs.Replace.{replaced};
-ghost use Rattle.renaming.specs.Order.{Sorted};
+ghost use Rattle.renaming.specs.Order.{Sorted, order_in};
 ghost use Rattle.renaming.specs.Place.{replaced_at};
-ghost use Rattle.renaming.specs.Windows.{Apart};
 ghost use Rattle.renaming.specs.Parting.{Parted};
-ghost use Rattle.renaming.specs.Bringing.{last_of, Stayed, Gone, Brought};
-ghost use Rattle.renaming.specs.Table.{Through};
+ghost use Rattle.renaming.specs.Bringing.{last_of, Stayed};
+
+// The weights of the places: those of the four arguments, and that of the value.
+const WEIGHTS: [u64; 5] = [4294967296, 16777216, 65536, 256, 1];
 
 // The entry with s for l at the place of weight p.
+#[tactic(auto, using(crate::specs::Place::place_fits, crate::specs::Place::at_there, crate::specs::Place::at_other))]
 fn replace_at(x: u64, p: u64, s: u64, l: u64) -> u64
     requires { (0 < p) × (s ≤ l) }
     ensures { result ≡ replaced_at p s l x }
@@ -24,73 +25,70 @@ fn replace_at(x: u64, p: u64, s: u64, l: u64) -> u64
     x
 }
 
-// The entries that change go to the spare window, changed, and the others close up. How many went.
-fn set_apart(w: &mut [u64], a: usize, n: usize, b: usize, p: u64, s: u64, l: u64) -> usize
-    requires { (a + n ≤ length w.old) × ((b + n ≤ length w.old) × (Apart a n b n × ((0 < p) × (s ≤ l)))) }
-    ensures { Parted (replaced_at p s l) a n b w.old result w.new }
+// The entries that change go to the spare slice, changed, and the others close up. How many went.
+fn set_apart(table: &mut [u64], spare: &mut [u64], p: u64, s: u64, l: u64) -> usize
+    requires { (length table.old ≤ length spare.old) × ((0 < p) × (s ≤ l)) }
+    ensures { Parted (replaced_at p s l) table.old result table.new spare.new }
 {
     let mut gone = 0;
-    let mut i = 0;
-    while i < n {
-        let x = w[a + i];
+    for i in 0..table.len() {
+        let x = table[i];
         let y = replace_at(x, p, s, l);
-        let stay = i - gone;
-        i += 1;
         if y < x {
-            w[b + gone] = y;
+            spare[gone] = y;
             gone += 1;
         } else {
-            w[a + stay] = x;
+            table[i - gone] = x;
         }
     }
     gone
 }
 
 // The entry before place i; before the first, 0.
-fn last_of(w: &[u64], a: usize, i: usize) -> u64
-    requires { a + i ≤ length w.now }
-    ensures { result ≡ last_of w.now a i }
+#[tactic(auto, using(crate::specs::Bringing::last_none, crate::specs::Bringing::last_some))]
+fn last_of(t: &[u64], i: usize) -> u64
+    requires { i ≤ length t.now }
+    ensures { result ≡ last_of t.now i }
 {
-    if i == 0 { 0 } else { w[a + (i - 1)] }
+    if i == 0 { 0 } else { t[i - 1] }
 }
 
-// The entries that went come back, the greatest of all that are left first, to the end of the table.
-fn bring_back(w: &mut [u64], a: usize, n: usize, b: usize, gone: usize)
-    requires { (gone ≤ n) × ((a + n ≤ length w.old) × ((b + n ≤ length w.old) × (Apart a n b n × (Sorted (Stayed a n gone w.old) × Sorted (Gone b n gone w.old))))) }
-    ensures { Brought a n b gone w.old w.new }
+// The entries that went come back, the greatest of all that are left first, to the end of the table. By two cursors, which both go
+// down.
+fn bring_back(table: &mut [u64], went: &[u64])
+    requires { (length went.now ≤ length table.old) × (Sorted (Stayed table.old (length went.now)) × Sorted went.now) }
+    ensures { table.new ≡ order_in (Stayed table.old (length went.now) ++ went.now) }
 {
-    let mut i = n - gone;
-    let mut j = gone;
+    let mut i = table.len() - went.len();
+    let mut j = went.len();
     while 0 < j {
-        let x = w[b + (j - 1)];
-        let y = last_of(w, a, i);
+        let x = went[j - 1];
+        let y = last_of(table, i);
         if x < y {
             i -= 1;
-            w[a + (i + j)] = y;
+            table[i + j] = y;
         } else {
             j -= 1;
-            w[a + (i + j)] = x;
+            table[i + j] = x;
         }
     }
 }
 
 // At the place of weight p, in the whole table.
-fn rename_place(w: &mut [u64], a: usize, n: usize, b: usize, p: u64, s: u64, l: u64)
-    requires { (a + n ≤ length w.old) × ((b + n ≤ length w.old) × (Apart a n b n × ((0 < p) × ((s ≤ l) × Sorted (part a n w.old))))) }
-    ensures { Through (replaced_at p s l) a n b w.old w.new }
+fn rename_place(table: &mut [u64], spare: &mut [u64], p: u64, s: u64, l: u64)
+    requires { (length table.old ≤ length spare.old) × ((0 < p) × ((s ≤ l) × Sorted table.old)) }
+    ensures { table.new ≡ order_in (map (replaced_at p s l) table.old) }
 {
-    let gone = set_apart(w, a, n, b, p, s, l);
-    bring_back(w, a, n, b, gone);
+    let gone = set_apart(table, spare, p, s, l);
+    bring_back(table, &spare[..gone]);
 }
 
-// At the places of the four arguments and of the value.
-pub fn rename_table(w: &mut [u64], a: usize, n: usize, b: usize, s: u64, l: u64)
-    requires { (a + n ≤ length w.old) × ((b + n ≤ length w.old) × (Apart a n b n × ((s < l) × ((s < 256) × Sorted (part a n w.old))))) }
-    ensures { Through (replaced s l) a n b w.old w.new }
+// At the places of the four arguments and of the value, with a spare slice that is as long.
+pub fn rename_table(table: &mut [u64], spare: &mut [u64], s: u64, l: u64)
+    requires { (length table.old ≤ length spare.old) × ((s < l) × ((s < 256) × Sorted table.old)) }
+    ensures { table.new ≡ order_in (map (replaced s l) table.old) }
 {
-    rename_place(w, a, n, b, 4294967296, s, l);
-    rename_place(w, a, n, b, 16777216, s, l);
-    rename_place(w, a, n, b, 65536, s, l);
-    rename_place(w, a, n, b, 256, s, l);
-    rename_place(w, a, n, b, 1, s, l);
+    for p in &WEIGHTS {
+        rename_place(table, spare, *p, s, l);
+    }
 }

@@ -3,95 +3,31 @@
 // line says how many were listed; an input that ends early or does not fit ends the program with a line that says so.
 #![tactic(auto)]
 
-ghost use Rattle.std.specs.Prelude.{◌≡◌, ◌≤◌, ◌<◌, length};
-
-use printing::text;
-
-// The descriptor of standard output.
-const STDOUT_FILENO: i32 = 1;
-
-// What came of an input.
-#[derive(Drop)]
-enum Input {
-    Listed,
-    Unfit,
-    End,
-}
-
-// The length that stands in front of an input.
-fn size(head: &[u8]) -> usize
-    ensures { result < 4294967296 }
-{
-    words::num32(head, 0) as usize
-}
+use lines::Page;
+use printing::{INPUT, POOL, TEXT, text};
+use records::Stop;
 
 // The text of an input, and the line behind it.
-fn list(input: &[u8], pool: &mut [u8], out: &mut [u8]) -> Input
-    requires { (length pool.old ≡ 25744) × (101661 ≤ length out.old) }
-{
-    let end = text(input, pool, out);
-    io::write_all(STDOUT_FILENO, &out[..end]);
-    io::write_all(STDOUT_FILENO, b"--\n");
-    Input::Listed
+fn list(input: &[u8], pool: &mut [u8; POOL], page: &mut Page<TEXT>) {
+    page.clear();
+    text(input, pool, page);
+    records::word(page.text());
+    records::word(b"--\n");
 }
 
 // The next input.
-fn next(input: &mut [u8], pool: &mut [u8], out: &mut [u8]) -> Input
-    requires { (length pool.old ≡ 25744) × (101661 ≤ length out.old) }
-{
-    let mut head = [0u8; 4];
-    let got = io::read_full(0, &mut head);
-    if got == 0 {
-        return Input::End;
-    }
-    if got < 4 {
-        return Input::Unfit;
-    }
-    let n = size(&head);
-    if input.len() < n {
-        return Input::Unfit;
-    }
-    if io::read_full(0, &mut input[0..n]) < n {
-        return Input::Unfit;
-    }
-    list(&input[0..n], pool, out)
+fn next(input: &mut [u8; INPUT], pool: &mut [u8; POOL], page: &mut Page<TEXT>) -> Result<(), Stop> {
+    let mut head = [0; 4];
+    records::read_head(&mut head)?;
+    let input = input.get_mut(..records::size(&head, 0)).ok_or(Stop::Unfit)?;
+    records::read(input)?;
+    list(input, pool, page);
+    Ok(())
 }
 
-fn last_line(word: &[u8], done: u64) {
-    io::write_all(STDOUT_FILENO, word);
-    io::print_decimal(STDOUT_FILENO, done);
-    io::write_all(STDOUT_FILENO, b"\n");
-}
-
-// Was an input listed? If not, the last line says why the program ends, and after how many inputs.
-fn goes_on(input: Input, done: u64) -> bool {
-    match input {
-        Input::Listed => {
-            return true;
-        }
-        Input::Unfit => last_line(b"unfit input after ", done),
-        Input::End => last_line(b"end after ", done),
-    }
-    false
-}
-
-fn all(input: &mut [u8], pool: &mut [u8], out: &mut [u8])
-    requires { (length pool.old ≡ 25744) × (101661 ≤ length out.old) }
-{
-    let mut done: u64 = 0;
-    while done < 1000000 {
-        if goes_on(next(input, pool, out), done) {
-            done += 1;
-        } else {
-            return;
-        }
-    }
-}
-
-// One byte more than the settings and the longest book tells a book that is too long; pool and output are as long as text asks.
 fn main() {
-    let mut input = [0u8; 32777];
-    let mut pool = [0u8; 25744];
-    let mut out = [0u8; 101661];
-    all(&mut input, &mut pool, &mut out);
+    let mut input = [0; INPUT];
+    let mut pool = [0; POOL];
+    let mut page = Page::new();
+    records::each(b"input", || next(&mut input, &mut pool, &mut page));
 }

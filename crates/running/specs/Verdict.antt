@@ -1,7 +1,7 @@
 -- Refusals 1 to 13 of step and run, and the step behind them.
-use Rattle.std.specs.Prelude.{◌≡◌, ℕ, ◌≤◌, ◌<◌, Bool, not, ◌&&◌, ◌||◌, List, length}
+use Rattle.std.specs.Prelude.{◌≡◌, ℕ, Bool, List, length, Result, MatchResult}
 use Rattle.std.proofs.Math.Path.{refl, sym, ap, subst}
-use Rattle.std.proofs.Common.{◌∙◌, arith, lt-ltb, le-ltb, eq-eqb, ne_eqb, eqb-true}
+use Rattle.std.proofs.Common.{◌∙◌, arith, eqb-true}
 use Rattle.std.proofs.Math.Bool.{true, false}
 use Rattle.std.proofs.Math.Dec.{T, eqb}
 use Rattle.std.proofs.lemmas.Bool.{eqb-false}
@@ -13,15 +13,20 @@ use Rattle.rules.specs.Pool.{State}
 use Rattle.rules.specs.Image.{pool_bytes, pool_in}
 use Rattle.rules.specs.Sound.{sound}
 use Rattle.rules.specs.Step.{Answer, refuse, done, Ran, run}
-use Rattle.rules.specs.Calls.{right_length, bounds, bound_of, known_bound, checked, soundly, Outcome, outcome, step_call, RunOutcome, run_call, StepPromise}
+use Rattle.rules.specs.Bound.{Bound}
+use Rattle.rules.specs.Calls.{right_length, bound_of, known_bound, checked, soundly, Outcome, outcome, step_call, RunOutcome, run_call, StepPromise}
 use Rattle.pools.specs.Steps.{Did, refusing, completing, failing, branching, step_did}
 use Rattle.demands.specs.Refusals.{book_refusal}
 use Rattle.demands.specs.Kept.{fits_roomy, sound_tidy, sound_image}
 use Rattle.texts.specs.Heads.{accepted}
 use Rattle.sheetparts.specs.Ways.{on, off}
 use Rattle.poolcheck.specs.Books.{PoolSound}
-use Rattle.openings.specs.Order.{first_refusal, first_refuses, none_refused}
-use Rattle.stepping.specs.Standing.{L, Standing, step_of, Went}
+use Rattle.openings.specs.Open.{right_true}
+use Rattle.refusals.specs.declared.Refusal.{Refusal}
+use Rattle.refusals.specs.Numbers as refusals
+use Rattle.bound.specs.declared.Bound as declared
+use Rattle.bound.specs.Bounds.{bound_is}
+use Rattle.stepping.specs.Standing.{L, Standing, step_of, Stepped}
 
 -- What a step's outcome is of the definition's answer, and a run's.
 abbrev pub after_step : Bytes → Answer → Outcome
@@ -30,36 +35,23 @@ after_step p r = if (eqb r.refusal 0) (λ _. outcome 0 (pool_bytes L r.state)) (
 abbrev pub after_run : Ran → RunOutcome
 after_run r = record { stop = r.stop; steps = r.steps; pool = pool_bytes L r.state }
 
-abbrev pub run_of : (text p : Bytes) → Standing text p → ℕ → ℕ → ℕ → Ran
-run_of text p z bound number budget = run L budget (bound_of bound number) (rules z.book) z.state
+abbrev pub run_of : (text p : Bytes) → Standing text p → Bound → ℕ → Ran
+run_of text p z bd budget = run L budget bd (rules z.book) z.state
 
 -- Where none holds the pool stands, and the calls do what the definition does.
 pub record Entry (text p : Bytes) (bound number : ℕ) : Type 0 where
   pub standing : Standing text p
-  pub steps : step_call text p bound number ≡ after_step p (step_of text p standing bound number)
-  pub runs : (budget : ℕ) → run_call text p bound number budget ≡ after_run (run_of text p standing bound number budget)
+  pub steps : step_call text p bound number ≡ after_step p (step_of text p standing (bound_of bound number))
+  pub runs : (budget : ℕ) → run_call text p bound number budget ≡ after_run (run_of text p standing (bound_of bound number) budget)
 
 pub record Verdict (text p : Bytes) (bound number r : ℕ) : Type 0 where
   pub refuses : (r ≡ 0 → ⊥) → (step_call text p bound number ≡ outcome r p) × ((budget : ℕ) → run_call text p bound number budget ≡ record { stop = r; steps = 0; pool = p })
   pub passes : r ≡ 0 → Entry text p bound number
 
--- ---- the bound
-
-module _ (bound number : ℕ) where
-  pub bound_unknown : 4 ≤ bound → false ≡ known_bound bound number
-  unfolding known_bound bounds
-  bound_unknown h = sym (ap (λ b. b && (not (eqb bound 0) || eqb number 0)) (le-ltb bound 4 h))
-
-  module _ (h : bound < 4) where
-    within : known_bound bound number ≡ not (eqb bound 0) || eqb number 0
-    unfolding known_bound bounds
-    within = ap (λ b. b && (not (eqb bound 0) || eqb number 0)) (lt-ltb bound 4 h)
-
-    pub bound_none : bound ≡ 0 → (r : Bool) → r ≡ eqb number 0 → r ≡ known_bound bound number
-    bound_none e r q = q ∙ sym (within ∙ ap (λ b. not b || eqb number 0) (eq-eqb bound 0 e))
-
-    pub bound_some : (bound ≡ 0 → ⊥) → true ≡ known_bound bound number
-    bound_some n = sym (within ∙ ap (λ b. not b || eqb number 0) (ne_eqb bound 0 n))
+-- What the checks make of a call: the bound that it means, or its refusal.
+abbrev pub CallChecked : Bytes → Bytes → ℕ → ℕ → Result declared.Bound Refusal → Type 0
+CallChecked text p bound number r =
+    MatchResult r (λ b. Verdict text p bound number 0 × (bound_is b ≡ bound_of bound number)) (λ e. Verdict text p bound number (refusals.number e))
 
 -- ---- the ways out
 
@@ -84,40 +76,36 @@ module _ (text p : Bytes) (bound number : ℕ) where
     unfolding soundly checked case_read
     through f g = ap (λ (r : Read Book). case_read r (λ k _. f k) (λ b _. if (right_length (length p)) (λ _. if settings (λ _. if (sound limits b p) (λ _. g b (pool_in limits p)) (λ _. f 13)) (λ _. f 12)) (λ _. f 11))) q
 
-    module _ (n : ℕ) (e : n ≡ first_refusal (right_length (length p)) settings) where
-      pub verdict_unfit : (n ≡ 0 → ⊥) → Verdict text p bound number n
-      verdict_unfit z = refused_by n (λ A f g. through f g ∙ first_refuses (right_length (length p)) settings f _ (λ q. z (e ∙ q)) ∙ ap f (sym e)) z
+    pub verdict_eleven : right_length (length p) ≡ false → Verdict text p bound number 11
+    verdict_eleven e = refused_by 11 (λ A f g. through f g ∙ off (right_length (length p)) _ _ e) (λ z. omega arith)
 
-      module _ (z : n ≡ 0) where
-        fit : (true ≡ right_length (length p)) × (true ≡ settings)
-        fit = none_refused (right_length (length p)) settings (sym e ∙ z)
+    module _ (e : right_length (length p) ≡ true) where
+      pub verdict_twelve : settings ≡ false → Verdict text p bound number 12
+      verdict_twelve u = refused_by 12 (λ A f g. through f g ∙ on (right_length (length p)) _ _ e ∙ off settings _ _ u) (λ z. omega arith)
 
-        pub right : T (right_length (length p))
-        right = subst T fit.0 tt
+      module _ (k : settings ≡ true) (r : Bool) (s : PoolSound text p r) where
+        sound_is : r ≡ sound limits b p
+        sound_is = s b (accepted text b end q)
 
-        module _ (r : Bool) (s : PoolSound text p r) where
-          sound_is : r ≡ sound limits b p
-          sound_is = s b (accepted text b end q)
+        pub verdict_unsound : r ≡ false → Verdict text p bound number 13
+        verdict_unsound u = refused_by 13 (λ A f g. through f g ∙ on (right_length (length p)) _ _ e ∙ on settings _ _ k ∙ off (sound limits b p) _ _ (sym sound_is ∙ u)) (λ z. omega arith)
 
-          pub verdict_unsound : r ≡ false → Verdict text p bound number 13
-          verdict_unsound u = refused_by 13 (λ A f g. through f g ∙ on (right_length (length p)) _ _ (sym fit.0) ∙ on settings _ _ (sym fit.1) ∙ off (sound limits b p) _ _ (sym sound_is ∙ u)) (λ z. omega arith)
+        module _ (u : r ≡ true) where
+          going : {A : Type 0} (f : ℕ → A) (g : Book → State → A) → soundly text p settings f g ≡ g b (pool_in limits p)
+          going f g = through f g ∙ on (right_length (length p)) _ _ e ∙ on settings _ _ k ∙ on (sound limits b p) _ _ (sym sound_is ∙ u)
 
-          module _ (u : r ≡ true) where
-            going : {A : Type 0} (f : ℕ → A) (g : Book → State → A) → soundly text p settings f g ≡ g b (pool_in limits p)
-            going f g = through f g ∙ on (right_length (length p)) _ _ (sym fit.0) ∙ on settings _ _ (sym fit.1) ∙ on (sound limits b p) _ _ (sym sound_is ∙ u)
+          stands : Standing text p
+          unfolding limits
+          stands =
+              let t : T (sound limits b p) = subst T (sym u ∙ sound_is) tt in
+              record { book = b; end = end; reads = q; state = pool_in limits p; tidy = sound_tidy b p t; roomy = fits_roomy p (right_true (length p) e); image = sym (sound_image b p t) }
 
-            stands : Standing text p
-            unfolding limits
-            stands =
-                let t : T (sound limits b p) = subst T (sym u ∙ sound_is) tt in
-                record { book = b; end = end; reads = q; state = pool_in limits p; tidy = sound_tidy b p t; roomy = fits_roomy p right; image = sym (sound_image b p t) }
-
-            pub verdict_sound : Verdict text p bound number 0
-            unfolding step_call run_call limits stands
-            verdict_sound = record {
-              refuses = λ z. absurd (z refl);
-              passes = λ _. record { standing = stands; steps = going (λ n. outcome n p) _; runs = λ budget. going (λ n. record { stop = n; steps = 0; pool = p }) _ };
-            }
+          pub verdict_sound : Verdict text p bound number 0
+          unfolding step_call run_call limits stands
+          verdict_sound = record {
+            refuses = λ z. absurd (z refl);
+            passes = λ _. record { standing = stands; steps = going (λ n. outcome n p) _; runs = λ budget. going (λ n. record { stop = n; steps = 0; pool = p }) _ };
+          }
 
 -- ---- the step
 
@@ -134,19 +122,20 @@ module _ (text p : Bytes) (bound number : ℕ) where
   unfolding outcome
   step_refused r v n = let e = (v.refuses n).0 in record { answers = ap (λ (x : Outcome). x.answer) (sym e); leaves = ap (λ (x : Outcome). x.pool) (sym e) }
 
-  pub step_went : (r₀ : ℕ) → Verdict text p bound number r₀ → r₀ ≡ 0 → (r : ℕ) (p' : Bytes) → ((z : Standing text p) → Went text p z bound number r p') → StepPromise text p bound number r p'
+  pub step_went : Verdict text p bound number 0 → (bd : Bound) → bd ≡ bound_of bound number → (r : ℕ) (p' : Bytes) → Stepped text bd p r p' → StepPromise text p bound number r p'
   unfolding outcome if
-  step_went r₀ v n r p' w =
-      let g = v.passes n in
+  step_went v bd q r p' s =
+      let w = subst (λ d. Stepped text d p r p') q s in
+      let g = v.passes refl in
       let z = g.standing in
-      let a = step_of text p z bound number in
+      let a = step_of text p z (bound_of bound number) in
       let y = go a (step_did L (bound_of bound number) (rules z.book) z.state) (eqb a.refusal 0) refl in
       record {
         answers = (w z).0 ∙ y.0 ∙ ap (λ (x : Outcome). x.answer) (sym g.steps);
         leaves = (w z).1 ∙ y.1 ∙ ap (λ (x : Outcome). x.pool) (sym g.steps);
       }
     where
-      go : (a : Answer) → Did L (bound_of bound number) (rules (v.passes n).standing.book) (v.passes n).standing.state a → (b : Bool) → eqb a.refusal 0 ≡ b
+      go : (a : Answer) → Did L (bound_of bound number) (rules (v.passes refl).standing.book) (v.passes refl).standing.state a → (b : Bool) → eqb a.refusal 0 ≡ b
           → (a.refusal ≡ (if (eqb a.refusal 0) (λ _. outcome 0 (pool_bytes L a.state)) (λ _. outcome a.refusal p)).answer)
           × (pool_bytes L a.state ≡ (if (eqb a.refusal 0) (λ _. outcome 0 (pool_bytes L a.state)) (λ _. outcome a.refusal p)).pool)
       go a d true e =
@@ -154,4 +143,4 @@ module _ (text p : Bytes) (bound number : ℕ) where
           (eqb-true a.refusal 0 e ∙ ap (λ (x : Outcome). x.answer) (sym q), ap (λ (x : Outcome). x.pool) (sym q))
       go a d false e =
           let q = ap (λ (b : Bool). if b (λ _. outcome 0 (pool_bytes L a.state)) (λ _. outcome a.refusal p)) e in
-          (ap (λ (x : Outcome). x.answer) (sym q), ap (pool_bytes L) (refused_same a d (eqb-false a.refusal 0 e)) ∙ sym (v.passes n).standing.image ∙ ap (λ (x : Outcome). x.pool) (sym q))
+          (ap (λ (x : Outcome). x.answer) (sym q), ap (pool_bytes L) (refused_same a d (eqb-false a.refusal 0 e)) ∙ sym (v.passes refl).standing.image ∙ ap (λ (x : Outcome). x.pool) (sym q))

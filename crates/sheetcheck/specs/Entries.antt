@@ -2,13 +2,13 @@
 -- a fact is an entry of kind 0 and value 0.
 use Rattle.std.specs.Prelude.{◌≡◌, ℕ, ◌+◌, ◌-◌, ◌*◌, ◌≤◌, length, take, drop}
 use Rattle.std.proofs.Math.Path.{refl, sym, ap, ap₂}
-use Rattle.std.proofs.Common.{◌∙◌, subst, length-append, length-take, take_at, nltb→le, le-ltb}
+use Rattle.std.proofs.Common.{◌∙◌, length-append, length-take, take_at, le→leb}
 use native.Mathlib.Omega.{arith}
 use mathlib.Core.List.{List, [], ◌∷◌, ◌++◌, map}
 use Rattle.std.proofs.Math.ListN.{get_or}
 use Rattle.std.proofs.Math.Seq.{get_or_at, take-take}
-use Rattle.std.proofs.Math.Dec.{T}
-use Rattle.base.specs.BranchLaws.{if_elim}
+use Rattle.std.proofs.Math.Dec.{T, leb, leb→le}
+use Rattle.base.specs.BranchLaws.{and_l, and_r, and_i}
 use Rattle.rules.specs.Reading.{Bytes}
 use Rattle.rules.specs.Sheet.{key, rel}
 use Rattle.rules.specs.Image.{padded, entry_bytes, key_bytes, part, args_in, key_in, fact_in}
@@ -17,7 +17,6 @@ use Rattle.packing.specs.Digits.{number_from, number}
 use Rattle.packing.specs.Pack.{pack_key, pack_entry, key_number_lem}
 use Rattle.sheetparts.specs.Loops.{up_to}
 use Rattle.sheetparts.specs.Tests.{byte_at, zeros, spare, key_number}
-use Rattle.sheetparts.specs.Ways.{off}
 use Rattle.sheetcheck.specs.Regions.{join_split, part_length, part_row, region_front, front_region}
 
 -- The arguments that are read of an entry at a place.
@@ -37,9 +36,7 @@ one_part a b h = cc
 -- At most four arguments, with zeros behind them.
 pub spare_few : (s : Bytes) (at : ℕ) → T (spare s at) → (byte_at s (at + 2) ≤ 4) × T (zeros s (at + 3 + byte_at s (at + 2)) (4 - byte_at s (at + 2)))
 unfolding spare
-spare_few s at t =
-    if_elim (λ b. T b → (byte_at s (at + 2) ≤ 4) × T (zeros s (at + 3 + byte_at s (at + 2)) (4 - byte_at s (at + 2)))) _ _ _
-    (λ _ q. absurd q) (λ n q. (nltb→le 4 (byte_at s (at + 2)) n, q)) t
+spare_few s at t = (leb→le (byte_at s (at + 2)) 4 (and_l (leb (byte_at s (at + 2)) 4) _ t), and_r (leb (byte_at s (at + 2)) 4) _ t)
 
 -- Whatever eight bytes are read, the image has eight.
 pub image_length : (kind symbol value : ℕ) (p : Bytes) → length (entry_bytes kind symbol (args_in p) value) ≡ 8
@@ -104,7 +101,7 @@ module _ (s : Bytes) (at : ℕ) (fits : at + 8 ≤ length s) where
       let q = join_split (padded 4 (args_at s at)) (value ∷ []) (part (at + 3) 4 s) (byte_at s (at + 7) ∷ []) (padded_length 4 (args_at s at) few_args ∙ sym four_length) p.1.1 in
       let n : byte_at s (at + 2) ≤ 4 = omega (arith, p.1.0, few_args) in
       let r = region_front s (at + 3) 4 (byte_at s (at + 2)) (args_at s at) (omega arith) n p.1.0 q.0 in
-      (p.0, (subst T (sym (off _ _ _ (le-ltb 4 (byte_at s (at + 2)) n))) r.1, one_part value (byte_at s (at + 7)) q.1))
+      (p.0, (and_i (leb (byte_at s (at + 2)) 4) _ (le→leb (byte_at s (at + 2)) 4 n) r.1, one_part value (byte_at s (at + 7)) q.1))
 
   pub entry_image_lem : T (spare s at) → entry_bytes (byte_at s at) (byte_at s (at + 1)) (args_at s at) (byte_at s (at + 7)) ≡ part at 8 s
   unfolding entry_bytes part

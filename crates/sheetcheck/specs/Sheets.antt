@@ -1,6 +1,6 @@
 -- A lone sheet: the tests on its bytes, head, room and body, come to the definition: the bytes are the image of what they say, and
 -- that is sound.
-use Rattle.std.specs.Prelude.{◌≡◌, refl, Bool, not, ◌&&◌, drop}
+use Rattle.std.specs.Prelude.{◌≡◌, refl, Bool, ◌&&◌, drop}
 use Rattle.std.proofs.Math.Path.{sym, ap, subst}
 use Rattle.std.proofs.Common.{ap₂, ◌∙◌, le→leb}
 use Prim.Native.Nat.{ℕ, zero, suc, ◌+◌, ◌-◌, ◌*◌, ◌≤◌, ◌<◌, min}
@@ -9,10 +9,10 @@ use native.Mathlib.Omega.{arith}
 use Rattle.std.proofs.Math.Bool.{true, false}
 use mathlib.Core.List.{List, [], ◌∷◌, map}
 use Rattle.std.proofs.Math.ListN.{length, get_or, take, length-map, get_or-eq_default}
-use Rattle.std.proofs.Math.Dec.{T, leb, ltb, eqb, leb→le, ltb→lt, lt→ltb, nltb→le, eqb→eq}
+use Rattle.std.proofs.Math.Dec.{T, leb, ltb, eqb, leb→le, ltb→lt, lt→ltb, eqb→eq}
 use Rattle.base.specs.Branch.{if, is_lt}
 use Rattle.base.specs.Lists.{All, all, from, equal}
-use Rattle.base.specs.BranchLaws.{if_elim, and_l, and_r, and_i, eq→eqb}
+use Rattle.base.specs.BranchLaws.{and_l, and_r, and_i, eq→eqb}
 use Rattle.base.specs.ListLaws.{map_map, map_agree, all_any, all_all, all_of, of_all, equal_eq, equal_self}
 use Rattle.pools.specs.Count.{from_all, all_from}
 use Rattle.rules.specs.Book.{Names}
@@ -29,17 +29,6 @@ use Rattle.sheetcheck.specs.Entries.{args_at, key_here, fact_here, args_row, arg
 use Rattle.sheetcheck.specs.Tables.{all_at, at_all, rising_at, at_rising, both_of, of_both, related_of, of_related, related_kind, entry_shape, key_of_entry, Clauses, table_clauses, clauses_table}
 use Rattle.sheetcheck.specs.Depths.{same_test, Met, Agree, met_all, met_known, met_depth, depth_by}
 use Rattle.sheetcheck.specs.Images.{Shape, shape_image, image_shape, size_is}
-
--- ---- a chain of refusals
-
-pub past_of : (a b : Bool) → T (if a (λ _. false) (λ _. b)) → T (not a) × T b
-past_of a b t = if_elim (λ x. T x → T (not a) × T b) a _ _ (λ _ q. absurd q) (λ p q. (p, q)) t
-
-pub of_past : (a b : Bool) → (T a → ⊥) → T b → T (if a (λ _. false) (λ _. b))
-of_past a b p q = if_elim T a _ _ (λ t. p t) (λ _. q)
-
-not_below : (a b : ℕ) → b ≤ a → T (ltb a b) → ⊥
-not_below a b h t = let l = ltb→lt a b t in omega arith
 
 up_long : (n : ℕ) → length (up_to 0 n) ≡ n
 unfolding up_to from
@@ -273,21 +262,21 @@ module _ (lim : Limits) (fair : Fair lim) (d : Names) (s : Bytes) (len : length 
   pub head_says : (places : ℕ) → T (head_right lim places s) → ((num s 4 ≤ lim.elements) × ((num s 6 ≤ lim.keys) × (num s 8 ≤ lim.facts))) × ((num s 2 < places) × T (zeros s 10 6))
   unfolding head_right
   head_says places t =
-      let a = past_of (ltb lim.elements (num s 4)) _ t in
-      let b = past_of (ltb lim.keys (num s 6)) _ a.1 in
-      let c = past_of (ltb lim.facts (num s 8)) _ b.1 in
+      let a = both_of (leb (num s 4) lim.elements) _ t in
+      let b = both_of (leb (num s 6) lim.keys) _ a.1 in
+      let c = both_of (leb (num s 8) lim.facts) _ b.1 in
       let e = both_of (ltb (num s 2) places) (zeros s 10 6) c.1 in
-      ((nltb→le lim.elements (num s 4) a.0, (nltb→le lim.keys (num s 6) b.0, nltb→le lim.facts (num s 8) c.0)), (ltb→lt (num s 2) places e.0, e.1))
+      ((leb→le (num s 4) lim.elements a.0, (leb→le (num s 6) lim.keys b.0, leb→le (num s 8) lim.facts c.0)), (ltb→lt (num s 2) places e.0, e.1))
 
   says_head : (places : ℕ) → Shape lim s → num s 2 < places → T (head_right lim places s)
   unfolding head_right
   says_head places g h =
-      of_past (ltb lim.elements (num s 4)) _ (not_below lim.elements (num s 4) g.created) (of_past (ltb lim.keys (num s 6)) _ (not_below lim.keys (num s 6) g.keys)
-      (of_past (ltb lim.facts (num s 8)) _ (not_below lim.facts (num s 8) g.facts) (of_both (ltb (num s 2) places) (zeros s 10 6) (lt→ltb (num s 2) places h) g.head)))
+      of_both (leb (num s 4) lim.elements) _ (le→leb (num s 4) lim.elements g.created) (of_both (leb (num s 6) lim.keys) _ (le→leb (num s 6) lim.keys g.keys)
+      (of_both (leb (num s 8) lim.facts) _ (le→leb (num s 8) lim.facts g.facts) (of_both (ltb (num s 2) places) (zeros s 10 6) (lt→ltb (num s 2) places h) g.head)))
 
   says_room : Shape lim s → T (room_right lim s)
   unfolding room_right
-  says_room g = of_both _ (if _ _ _) g.key_room (of_both _ (zeros s (depths_from lim + num s 4) (lim.elements - num s 4)) g.fact_room g.depth_room)
+  says_room g = of_both _ _ g.key_room (of_both _ (zeros s (depths_from lim + num s 4) (lim.elements - num s 4)) g.fact_room g.depth_room)
 
   -- What passes the tests is in shape.
   tests_shape : (places : ℕ) (t : List ℕ) → T (head_right lim places s) → T (room_right lim s) → T (body_right lim d t s) → Shape lim s

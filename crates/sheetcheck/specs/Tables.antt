@@ -1,5 +1,5 @@
 -- A table of entries: its test says clause by clause what the definitions say of its entries, read one by one.
-use Rattle.std.specs.Prelude.{◌≡◌, Bool, true, false, ◌&&◌, length, get_or}
+use Rattle.std.specs.Prelude.{◌≡◌, Bool, true, false, ◌&&◌, ◌||◌, length, get_or}
 use Rattle.std.proofs.Math.Path.{refl, sym, ap, ap₂, subst}
 use Rattle.std.proofs.Common.{◌∙◌}
 use Prim.Native.Nat.{ℕ, zero, suc, ◌+◌, ◌-◌, ◌*◌, ◌≤◌, ◌<◌, compare, Ordering}
@@ -8,7 +8,8 @@ use mathlib.Core.List.{List, [], ◌∷◌, map}
 use lib.Dec.{T, ltb, eqb, ltb→lt, lt→ltb, eqb→eq}
 use Rattle.base.specs.Branch.{if, is_lt}
 use Rattle.base.specs.Lists.{All, all, from}
-use Rattle.base.specs.BranchLaws.{if_elim, and_l, and_r, and_i, eq→eqb, neqb→ne, is_lt_is, is_is_lt}
+use borrow.Author.Tests.{ne_eqb}
+use Rattle.base.specs.BranchLaws.{if_elim, and_l, and_r, and_i, eq→eqb, is_lt_is, is_is_lt}
 use Rattle.base.specs.ListLaws.{all_map, all_any}
 use Rattle.pools.specs.Count.{from_all, all_from}
 use Rattle.rules.specs.Book.{Names}
@@ -69,11 +70,11 @@ module _ {A : Type 0} (o : A → A → Ordering) (f : ℕ → A) where
 
 -- ---- a chain of tests
 
-pub both_of : (a b : Bool) → T (if a (λ _. b) (λ _. false)) → T a × T b
-both_of a b t = if_elim (λ x. T x → T a × T b) a _ _ (λ p q. (p, q)) (λ _ q. absurd q) t
+pub both_of : (a b : Bool) → T (a && b) → T a × T b
+both_of a b t = (and_l a b t, and_r a b t)
 
-pub of_both : (a b : Bool) → T a → T b → T (if a (λ _. b) (λ _. false))
-of_both a b p q = if_elim T a _ _ (λ _. q) (λ n. absurd (lib.Dec.T_not a n p))
+pub of_both : (a b : Bool) → T a → T b → T (a && b)
+of_both a b p q = and_i a b p q
 
 -- ---- an entry's arity
 
@@ -170,47 +171,50 @@ module _ (d : Names) (facts : Bool) (bound : ℕ) (q : ℕ → Bool) (t : List �
   -- The entry before the i-th stands eight bytes lower.
   rises_suc : (i : ℕ) → T (rises s at (suc i)) → key_number s (place i) < key_number s (place (suc i))
   unfolding rises
-  rises_suc i =
+  rises_suc i t =
       let e : at + 8 * suc i - 8 ≡ at + 8 * i = omega arith in
-      if_elim (λ b. T b → key_number s (place i) < key_number s (place (suc i))) (eqb (suc i) 0) _ _
-      (λ z _. let q = eqb→eq (suc i) 0 z in absurd (omega arith))
-      (λ _ u. ltb→lt (key_number s (place i)) (key_number s (place (suc i))) (subst (λ p. T (ltb (key_number s p) (key_number s (place (suc i))))) e u))
-
-  suc_rises : (i : ℕ) → (i ≡ 0 → ⊥) → ((j : ℕ) → i ≡ suc j → key_number s (place j) < key_number s (place i)) → T (ltb (key_number s (place i - 8)) (key_number s (place i)))
-  suc_rises zero z f = absurd (z refl)
-  suc_rises (suc j) z f =
-      let e : at + 8 * suc j - 8 ≡ at + 8 * j = omega arith in
-      subst (λ p. T (ltb (key_number s p) (key_number s (place (suc j))))) (sym e) (lt→ltb (key_number s (place j)) (key_number s (place (suc j))) (f j refl))
+      let z : eqb (suc i) 0 ≡ false = ne_eqb (suc i) 0 (λ q. absurd (omega arith)) in
+      ltb→lt (key_number s (place i)) (key_number s (place (suc i))) (subst (λ p. T (ltb (key_number s p) (key_number s (place (suc i))))) e
+      (subst T (ap (λ b. b || ltb (key_number s (at + 8 * suc i - 8)) (key_number s (place (suc i)))) z) t))
 
   pub table_clauses : T (table_right d facts bound t s at n) → Clauses d facts bound q s at n
   unfolding table_right entry_at entry_right
   table_clauses u = record {
     symbols = symbols;
     spares = spares;
-    values = λ i h. ltb→lt _ bound (both_of _ _ (both_of _ _ (entry i h).1).1).0;
-    knowns = λ i h. subst T (known_args (place i) (room i h) (spare_few s (place i) (spares i h)).0) (both_of _ _ (both_of _ _ (entry i h).1).1).1;
-    rise = λ i h. subst (λ o. T (is_lt o)) (sym (ordered spares symbols i h)) (is_is_lt _ (compare_lt _ _ (rises_suc i (both_of _ _ (whole (suc i) h)).1)));
+    values = λ i h. ltb→lt _ bound (last i h).0;
+    knowns = λ i h. subst T (known_args (place i) (room i h) (spare_few s (place i) (spares i h)).0) (last i h).1;
+    rise = λ i h. subst (λ o. T (is_lt o)) (sym (ordered spares symbols i h)) (is_is_lt _ (compare_lt _ _ (rises_suc i (both_of (entry_right d facts bound t s (place (suc i))) _ (whole (suc i) h)).1)));
   }
     where
-      whole : (i : ℕ) → i < n → T (if (entry_right d facts bound t s (place i)) (λ _. rises s at i) (λ _. false))
+      whole : (i : ℕ) → i < n → T (entry_right d facts bound t s (place i) && rises s at i)
       whole i h = every_at (entry_at d facts bound t s at) n u i h
 
       entry : (i : ℕ) → i < n → T (named d facts (byte_at s (place i)) (byte_at s (place i + 1)) (byte_at s (place i + 2)))
-          × T (if (spare s (place i)) (λ _. if (ltb (byte_at s (place i + 7)) bound) (λ _. args_known t s (place i)) (λ _. false)) (λ _. false))
-      entry i h = both_of _ _ (both_of _ _ (whole i h)).0
+          × T (spare s (place i) && (ltb (byte_at s (place i + 7)) bound && args_known t s (place i)))
+      entry i h = both_of (named d facts (byte_at s (place i)) (byte_at s (place i + 1)) (byte_at s (place i + 2))) _ (both_of (entry_right d facts bound t s (place i)) (rises s at i) (whole i h)).0
+
+      last : (i : ℕ) → i < n → T (ltb (byte_at s (place i + 7)) bound) × T (args_known t s (place i))
+      last i h = both_of (ltb (byte_at s (place i + 7)) bound) _ (both_of (spare s (place i)) _ (entry i h).1).1
 
       symbols : (i : ℕ) → i < n → T (named d facts (byte_at s (place i)) (byte_at s (place i + 1)) (byte_at s (place i + 2)))
       symbols i h = (entry i h).0
 
       spares : (i : ℕ) → i < n → T (spare s (place i))
-      spares i h = (both_of _ _ (entry i h).1).0
+      spares i h = (both_of (spare s (place i)) _ (entry i h).1).0
 
   pub clauses_table : Clauses d facts bound q s at n → T (table_right d facts bound t s at n)
   unfolding table_right entry_at entry_right rises
   clauses_table g = at_every (entry_at d facts bound t s at) n (λ i h.
-      of_both _ _ (of_both _ _ (g.symbols i h) (of_both _ _ (g.spares i h) (of_both _ _ (lt→ltb _ bound (g.values i h))
+      of_both (entry_right d facts bound t s (place i)) (rises s at i) (of_both (named d facts (byte_at s (place i)) (byte_at s (place i + 1)) (byte_at s (place i + 2))) _ (g.symbols i h)
+      (of_both (spare s (place i)) _ (g.spares i h) (of_both (ltb (byte_at s (place i + 7)) bound) _ (lt→ltb _ bound (g.values i h))
       (subst T (sym (known_args (place i) (room i h) (spare_few s (place i) (g.spares i h)).0)) (g.knowns i h))))) (first i h))
     where
       first : (i : ℕ) → i < n → T (rises s at i)
-      first i h = if_elim T (eqb i 0) _ _ (λ _. tt) (λ z. suc_rises i (neqb→ne i 0 z) (λ j e.
-          subst (λ k. key_number s (place j) < key_number s (place k)) (sym e) (compare_is_lt _ _ (is_lt_is _ (subst (λ o. T (is_lt o)) (ordered g.spares g.symbols j (omega arith)) (g.rise j (omega arith)))))))
+      first zero h = tt
+      first (suc j) h =
+          let e : at + 8 * suc j - 8 ≡ at + 8 * j = omega arith in
+          let z : eqb (suc j) 0 ≡ false = ne_eqb (suc j) 0 (λ q. absurd (omega arith)) in
+          subst T (ap (λ b. b || ltb (key_number s (at + 8 * suc j - 8)) (key_number s (place (suc j)))) (sym z))
+          (subst (λ p. T (ltb (key_number s p) (key_number s (place (suc j))))) (sym e) (lt→ltb (key_number s (place j)) (key_number s (place (suc j)))
+          (compare_is_lt _ _ (is_lt_is _ (subst (λ o. T (is_lt o)) (ordered g.spares g.symbols j h) (g.rise j h))))))

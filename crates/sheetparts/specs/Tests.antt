@@ -1,6 +1,7 @@
 -- The tests of a lone sheet, on its bytes: what the code computes, test by test. An entry is eight bytes at a place; a test of keys
 -- serves facts too, as entries of kind 0 and value 0.
-use Rattle.std.specs.Prelude.{◌≡◌, ℕ, ◌+◌, ◌-◌, ◌*◌, ◌≤◌, ◌<◌, min, Bool, true, false, ◌&&◌, List, [], ◌∷◌, map, get_or, ltb, eqb}
+use Rattle.std.specs.Prelude.{◌≡◌, ℕ, ◌+◌, ◌-◌, ◌*◌, ◌≤◌, ◌<◌, min, Bool, true, false, ◌&&◌, ◌||◌, List, [], ◌∷◌, map, get_or, ltb, eqb}
+use Rattle.std.proofs.Math.Dec.{leb}
 use Rattle.base.specs.Branch.{if}
 use Rattle.base.specs.Lists.{equal}
 use Rattle.rules.specs.Book.{Names}
@@ -26,11 +27,11 @@ zeros s a n = every (zero_at s a) 0 n
 
 -- At most four arguments, and those that are not used are zero.
 unfoldable pub spare : Bytes → ℕ → Bool
-spare s at = if (ltb 4 (byte_at s (at + 2))) (λ _. false) (λ _. zeros s (at + 3 + byte_at s (at + 2)) (4 - byte_at s (at + 2)))
+spare s at = leb (byte_at s (at + 2)) 4 && zeros s (at + 3 + byte_at s (at + 2)) (4 - byte_at s (at + 2))
 
 -- A declared symbol with its arity: a relation, of kind 0, or a key's symbol.
 unfoldable pub named : Names → Bool → ℕ → ℕ → ℕ → Bool
-named d facts kind symbol n = if facts (λ _. if (eqb kind 0) (λ _. has_arity d.relations symbol n) (λ _. false)) (λ _. declared_as d kind symbol n)
+named d facts kind symbol n = if facts (λ _. eqb kind 0 && has_arity d.relations symbol n) (λ _. declared_as d kind symbol n)
 
 -- The seven bytes of a key as a number.
 unfoldable pub key_number : Bytes → ℕ → ℕ
@@ -38,7 +39,7 @@ key_number s at = number (byte_at s at ∷ byte_at s (at + 1) ∷ byte_at s (at 
 
 -- The first entry, or one above the entry before it.
 unfoldable pub rises : Bytes → ℕ → ℕ → Bool
-rises s at i = if (eqb i 0) (λ _. true) (λ _. ltb (key_number s (at + 8 * i - 8)) (key_number s (at + 8 * i)))
+rises s at i = eqb i 0 || ltb (key_number s (at + 8 * i - 8)) (key_number s (at + 8 * i))
 
 -- ---- elements by their keys
 
@@ -79,11 +80,10 @@ args_known t s at = every (known_at t s at) 0 (byte_at s (at + 2))
 -- An entry by itself: its symbol, its room, its value below a bound, its arguments.
 unfoldable pub entry_right : Names → Bool → ℕ → List ℕ → Bytes → ℕ → Bool
 entry_right d facts bound t s at =
-    if (named d facts (byte_at s at) (byte_at s (at + 1)) (byte_at s (at + 2))) (λ _.
-    if (spare s at) (λ _. if (ltb (byte_at s (at + 7)) bound) (λ _. args_known t s at) (λ _. false)) (λ _. false)) (λ _. false)
+    named d facts (byte_at s at) (byte_at s (at + 1)) (byte_at s (at + 2)) && (spare s at && (ltb (byte_at s (at + 7)) bound && args_known t s at))
 
 unfoldable pub entry_at : Names → Bool → ℕ → List ℕ → Bytes → ℕ → ℕ → Bool
-entry_at d facts bound t s at i = if (entry_right d facts bound t s (at + 8 * i)) (λ _. rises s at i) (λ _. false)
+entry_at d facts bound t s at i = entry_right d facts bound t s (at + 8 * i) && rises s at i
 
 unfoldable pub table_right : Names → Bool → ℕ → List ℕ → Bytes → ℕ → ℕ → Bool
 table_right d facts bound t s at n = every (entry_at d facts bound t s at) 0 n
@@ -110,30 +110,22 @@ depths_from lim = 16 + 8 * lim.keys + 8 * lim.facts
 -- Counts within the limits, the place among so many, and the head's unused bytes.
 unfoldable pub head_right : Limits → ℕ → Bytes → Bool
 head_right lim places s =
-    if (ltb lim.elements (num s 4)) (λ _. false) (λ _.
-    if (ltb lim.keys (num s 6)) (λ _. false) (λ _.
-    if (ltb lim.facts (num s 8)) (λ _. false) (λ _.
-    if (ltb (num s 2) places) (λ _. zeros s 10 6) (λ _. false))))
+    leb (num s 4) lim.elements && (leb (num s 6) lim.keys && (leb (num s 8) lim.facts && (ltb (num s 2) places && zeros s 10 6)))
 
 -- The room behind keys, facts and depths.
 unfoldable pub room_right : Limits → Bytes → Bool
 room_right lim s =
-    if (zeros s (16 + 8 * num s 6) (8 * lim.keys - 8 * num s 6)) (λ _.
-    if (zeros s (facts_from lim + 8 * num s 8) (8 * lim.facts - 8 * num s 8)) (λ _.
-    zeros s (depths_from lim + num s 4) (lim.elements - num s 4)) (λ _. false)) (λ _. false)
+    zeros s (16 + 8 * num s 6) (8 * lim.keys - 8 * num s 6)
+    && (zeros s (facts_from lim + 8 * num s 8) (8 * lim.facts - 8 * num s 8) && zeros s (depths_from lim + num s 4) (lim.elements - num s 4))
 
 -- Keys, facts and depths, given the least depths t.
 unfoldable pub body_right : Limits → Names → List ℕ → Bytes → Bool
 body_right lim d t s =
-    if (table_right d false (num s 4) t s 16 (num s 6)) (λ _.
-    if (table_right d true 1 t s (facts_from lim) (num s 8)) (λ _. depths_right t s (depths_from lim) (num s 4)) (λ _. false)) (λ _. false)
+    table_right d false (num s 4) t s 16 (num s 6) && (table_right d true 1 t s (facts_from lim) (num s 8) && depths_right t s (depths_from lim) (num s 4))
 
 -- What the tests come to: the bytes are the image of what they say, and that is sound.
 unfoldable pub sheet_sound : Limits → Names → ℕ → Bytes → Bool
 sheet_sound lim d places s = equal (sheet_bytes lim (sheet_in lim s)) s && sound_sheet lim d places (sheet_in lim s)
-
-abbrev pub limited : ℕ → ℕ → ℕ → Limits
-limited elements keys facts = record { elements = elements; keys = keys; facts = facts }
 
 -- Limits whose counts a sheet can hold; elements are bytes.
 pub record Fair (lim : Limits) : Type 0 where

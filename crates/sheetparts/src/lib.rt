@@ -6,96 +6,72 @@ ghost use Rattle.std.specs.Prelude.{◌≡◌, ◌+◌, ◌*◌, ◌≤◌, ◌<
 ghost use Rattle.rules.specs.Reading.{num};
 ghost use Rattle.rules.specs.Sound.{has_arity, declared_as};
 ghost use Rattle.texts.specs.Names.{names_in};
-ghost use Rattle.sheetparts.specs.Tests.{zeros, spare, named, key_number, rises, entry_depth, Lows, args_known, entry_right, table_right, wanted, depths_right, head_right, room_right, body_right, limited, Fair};
+ghost use Rattle.limits.specs.Limits.{limits_of};
+ghost use Rattle.sheetparts.specs.Tests.{zeros, spare, named, key_number, rises, entry_depth, Lows, args_known, entry_right, table_right, wanted, depths_right, head_right, room_right, body_right, Fair};
 
 use counts::{
     constant_witnesses, constants, function_arity, function_witnesses, functions, relation_arity,
     relations, witness_arity,
 };
+use limits::Limits;
 use words::{byte, num16};
 
-// n bytes from a place on are zero.
+// In a table of least depths: no key yields the element. A number that no depth reaches, so that a key's depth is less than it as it
+// is less than a depth.
+pub const UNKNOWN: u64 = 512;
+
+// n bytes from a place on are zero. No slice is cut: a place past the end reads as 0.
 pub fn zeros(s: &[u8], at: usize, n: usize) -> bool
     requires { (at < 4294967296) × (n < 4294967296) }
     ensures { result ≡ zeros s.now at n }
 {
-    let mut i = 0;
-    while i < n {
-        if byte(s, at + i) != 0 {
-            return false;
-        }
-        i += 1;
-    }
-    true
+    (0..n).all(|i| byte(s, at + i) == 0)
 }
 
 // At most four arguments, and those that are not used are zero.
+#[tactic(auto, unfolding(crate::specs::Tests::spare))]
 fn spare(s: &[u8], at: usize) -> bool
     requires { at < 2147483648 }
     ensures { result ≡ spare s.now at }
 {
     let n = byte(s, at + 2) as usize;
-    if n > 4 {
-        return false;
-    }
-    zeros(s, at + 3 + n, 4 - n)
+    n <= 4 && zeros(s, at + 3 + n, 4 - n)
 }
 
 // A relation with its arity.
+#[tactic(auto, unfolding(rules::specs::Sound::has_arity))]
 fn related(book: &[u8], symbol: u64, n: u64) -> bool
     ensures { result ≡ has_arity (names_in book.now).relations symbol n }
 {
-    if symbol < relations(book) {
-        return relation_arity(book, symbol) == n;
-    }
-    false
+    symbol < relations(book) && relation_arity(book, symbol) == n
 }
 
 // A key's symbol with its arity.
 fn declared(book: &[u8], kind: u64, symbol: u64, n: u64) -> bool
     ensures { result ≡ declared_as (names_in book.now) kind symbol n }
 {
-    if kind == 1 {
-        if symbol < constants(book) {
-            return n == 0;
-        }
-        return false;
+    match kind {
+        1 => symbol < constants(book) && n == 0,
+        2 => symbol < functions(book) && function_arity(book, symbol) == n,
+        3 => symbol < constant_witnesses(book) && n == 0,
+        4 => symbol < function_witnesses(book) && witness_arity(book, symbol) == n,
+        _ => false,
     }
-    if kind == 2 {
-        if symbol < functions(book) {
-            return function_arity(book, symbol) == n;
-        }
-        return false;
-    }
-    if kind == 3 {
-        if symbol < constant_witnesses(book) {
-            return n == 0;
-        }
-        return false;
-    }
-    if kind == 4 {
-        if symbol < function_witnesses(book) {
-            return witness_arity(book, symbol) == n;
-        }
-        return false;
-    }
-    false
 }
 
-// A fact's symbol, of kind 0, or a key's.
+// A fact's symbol, of kind 0, or a key's. A flag says which, as it does in the definition.
 fn named(book: &[u8], facts: bool, kind: u64, symbol: u64, n: u64) -> bool
     ensures { result ≡ named (names_in book.now) facts kind symbol n }
 {
     if facts {
-        if kind == 0 {
-            return related(book, symbol, n);
-        }
-        return false;
+        kind == 0 && related(book, symbol, n)
+    } else {
+        declared(book, kind, symbol, n)
     }
-    declared(book, kind, symbol, n)
 }
 
 // The seven bytes of a key as a number.
+#[tactic(auto, unfolding(crate::specs::Tests::key_number, packing::specs::Digits::number_from))]
 fn key_number(s: &[u8], at: usize) -> u64
     requires { at < 2147483648 }
     ensures { (result ≡ key_number s.now at) × (result < 72057594037927936) }
@@ -106,15 +82,12 @@ fn key_number(s: &[u8], at: usize) -> u64
 }
 
 // The first entry, or one above the entry before it.
+#[tactic(auto, unfolding(crate::specs::Tests::rises))]
 fn rises(s: &[u8], at: usize, i: usize) -> bool
     requires { (at < 1073741824) × (i < 65536) }
     ensures { result ≡ rises s.now at i }
 {
-    if i == 0 {
-        return true;
-    }
-    let here = at + 8 * i;
-    key_number(s, here - 8) < key_number(s, here)
+    i == 0 || key_number(s, at + 8 * i - 8) < key_number(s, at + 8 * i)
 }
 
 // The depth that an entry's arguments give, where the depths stand from d on.
@@ -122,10 +95,9 @@ fn entry_depth(s: &[u8], d: usize, at: usize) -> u64
     requires { (d < 2147483648) × (at < 2147483648) }
     ensures { (result ≡ entry_depth s.now d at) × (result ≤ 256) }
 {
-    let mut j = byte(s, at + 2) as usize;
+    let n = byte(s, at + 2) as usize;
     let mut most = 0;
-    while j > 0 {
-        j -= 1;
+    for j in (0..n).rev() {
         let e = byte(s, at + 3 + j) as usize;
         let deep = byte(s, d + e) + 1;
         if most < deep {
@@ -140,9 +112,7 @@ pub fn fill(s: &[u8], d: usize, at: usize, n: usize, t: &mut [u64])
     requires { ((d < 2147483648) × ((at < 1073741824) × (n < 65536))) × ((length t.old ≡ 256) × Lows s.now d at n n t.old) }
     ensures { Lows s.now d at 0 n t.new }
 {
-    let mut i = n;
-    while i > 0 {
-        i -= 1;
+    for i in (0..n).rev() {
         let deep = entry_depth(s, d, at + 8 * i);
         let e = byte(s, at + 8 * i + 7) as usize;
         if deep < t[e] {
@@ -157,32 +127,19 @@ fn args_known(t: &[u64], s: &[u8], at: usize) -> bool
     ensures { result ≡ args_known t.now s.now at }
 {
     let n = byte(s, at + 2) as usize;
-    let mut j = 0;
-    while j < n {
-        let e = byte(s, at + 3 + j) as usize;
-        if t[e] >= 512 {
-            return false;
-        }
-        j += 1;
-    }
-    true
+    (0..n).all(|j| t[byte(s, at + 3 + j) as usize] < UNKNOWN)
 }
 
 // An entry by itself: its symbol, its room, its value below a bound, its arguments.
+#[tactic(auto, unfolding(crate::specs::Tests::entry_right))]
 fn entry_right(book: &[u8], facts: bool, bound: u64, t: &[u64], s: &[u8], at: usize) -> bool
     requires { (at < 2147483648) × (length t.now ≡ 256) }
     ensures { result ≡ entry_right (names_in book.now) facts bound t.now s.now at }
 {
-    if named(book, facts, byte(s, at), byte(s, at + 1), byte(s, at + 2)) {
-        if spare(s, at) {
-            if byte(s, at + 7) < bound {
-                return args_known(t, s, at);
-            }
-            return false;
-        }
-        return false;
-    }
-    false
+    named(book, facts, byte(s, at), byte(s, at + 1), byte(s, at + 2))
+        && spare(s, at)
+        && byte(s, at + 7) < bound
+        && args_known(t, s, at)
 }
 
 // A table of keys or facts: n entries from a place on, each right and above the one before it.
@@ -198,19 +155,7 @@ fn table_right(
     requires { ((at < 1073741824) × (n < 65536)) × (length t.now ≡ 256) }
     ensures { result ≡ table_right (names_in book.now) facts bound t.now s.now at n }
 {
-    let mut i = 0;
-    while i < n {
-        if entry_right(book, facts, bound, t, s, at + 8 * i) {
-            if rises(s, at, i) {
-                i += 1;
-            } else {
-                return false;
-            }
-        } else {
-            return false;
-        }
-    }
-    true
+    (0..n).all(|i| entry_right(book, facts, bound, t, s, at + 8 * i) && rises(s, at, i))
 }
 
 // Each element's depth is the least over its keys; 0 if no key yields it.
@@ -218,85 +163,56 @@ fn depths_right(t: &[u64], s: &[u8], d: usize, n: usize) -> bool
     requires { (d < 2147483648) × ((n ≤ 256) × (length t.now ≡ 256)) }
     ensures { result ≡ depths_right t.now s.now d n }
 {
-    let mut e = 0;
-    while e < n {
-        if byte(s, d + e) != wanted(t[e]) {
-            return false;
-        }
-        e += 1;
-    }
-    true
+    (0..n).all(|e| byte(s, d + e) == wanted(t[e]))
 }
 
 // The depth that is wanted: the least, or 0 if no key yields the element.
 fn wanted(least: u64) -> u64
     ensures { result ≡ wanted least }
 {
-    if least == 512 { 0 } else { least }
+    if least == UNKNOWN { 0 } else { least }
 }
 
 // Counts within the limits, the place among so many, and the head's unused bytes.
-pub fn head_right(slot: &[u8], places: u64, elements: usize, keys: usize, facts: usize) -> bool
-    ensures { result ≡ head_right (limited elements keys facts) places slot.now }
+#[tactic(auto, unfolding(crate::specs::Tests::head_right))]
+pub fn head_right(slot: &[u8], places: u64, limits: Limits) -> bool
+    ensures { result ≡ head_right (limits_of limits) places slot.now }
 {
-    if num16(slot, 4) as usize > elements {
-        return false;
-    }
-    if num16(slot, 6) as usize > keys {
-        return false;
-    }
-    if num16(slot, 8) as usize > facts {
-        return false;
-    }
-    if num16(slot, 2) < places {
-        return zeros(slot, 10, 6);
-    }
-    false
+    num16(slot, 4) as usize <= limits.elements
+        && num16(slot, 6) as usize <= limits.keys
+        && num16(slot, 8) as usize <= limits.facts
+        && num16(slot, 2) < places
+        && zeros(slot, 10, 6)
 }
 
 // The room behind keys, facts and depths.
-pub fn room_right(slot: &[u8], elements: usize, keys: usize, facts: usize) -> bool
-    requires { Fair (limited elements keys facts) × ((num slot.now 4 ≤ elements) × ((num slot.now 6 ≤ keys) × (num slot.now 8 ≤ facts))) }
-    ensures { result ≡ room_right (limited elements keys facts) slot.now }
+#[tactic(auto, unfolding(crate::specs::Tests::room_right, crate::specs::Tests::facts_from, crate::specs::Tests::depths_from))]
+pub fn room_right(slot: &[u8], limits: Limits) -> bool
+    requires { Fair (limits_of limits) × ((num slot.now 4 ≤ limits.elements) × ((num slot.now 6 ≤ limits.keys) × (num slot.now 8 ≤ limits.facts))) }
+    ensures { result ≡ room_right (limits_of limits) slot.now }
 {
     let c = num16(slot, 4) as usize;
     let k = num16(slot, 6) as usize;
     let f = num16(slot, 8) as usize;
-    if zeros(slot, 16 + 8 * k, 8 * keys - 8 * k) {
-        if zeros(slot, 16 + 8 * keys + 8 * f, 8 * facts - 8 * f) {
-            return zeros(slot, 16 + 8 * keys + 8 * facts + c, elements - c);
-        }
-        return false;
-    }
-    false
+    let facts_from = 16 + 8 * limits.keys;
+    let depths_from = facts_from + 8 * limits.facts;
+    zeros(slot, 16 + 8 * k, 8 * limits.keys - 8 * k)
+        && zeros(slot, facts_from + 8 * f, 8 * limits.facts - 8 * f)
+        && zeros(slot, depths_from + c, limits.elements - c)
 }
 
 // Keys, facts and depths, given the least depths over the keys.
-pub fn body_right(
-    book: &[u8],
-    t: &[u64],
-    slot: &[u8],
-    keys: usize,
-    facts: usize,
-    elements: usize,
-) -> bool
-    requires { (Fair (limited elements keys facts) × (num slot.now 4 ≤ 256)) × (length t.now ≡ 256) }
-    ensures { result ≡ body_right (limited elements keys facts) (names_in book.now) t.now slot.now }
+#[tactic(auto, unfolding(crate::specs::Tests::body_right, crate::specs::Tests::facts_from, crate::specs::Tests::depths_from))]
+pub fn body_right(book: &[u8], t: &[u64], slot: &[u8], limits: Limits) -> bool
+    requires { (Fair (limits_of limits) × (num slot.now 4 ≤ 256)) × (length t.now ≡ 256) }
+    ensures { result ≡ body_right (limits_of limits) (names_in book.now) t.now slot.now }
 {
     let c = num16(slot, 4);
-    if table_right(book, false, c, t, slot, 16, num16(slot, 6) as usize) {
-        if table_right(
-            book,
-            true,
-            1,
-            t,
-            slot,
-            16 + 8 * keys,
-            num16(slot, 8) as usize,
-        ) {
-            return depths_right(t, slot, 16 + 8 * keys + 8 * facts, c as usize);
-        }
-        return false;
-    }
-    false
+    let k = num16(slot, 6) as usize;
+    let f = num16(slot, 8) as usize;
+    let facts_from = 16 + 8 * limits.keys;
+    let depths_from = facts_from + 8 * limits.facts;
+    table_right(book, false, c, t, slot, 16, k)
+        && table_right(book, true, 1, t, slot, facts_from, f)
+        && depths_right(t, slot, depths_from, c as usize)
 }

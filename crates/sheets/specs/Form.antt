@@ -3,28 +3,8 @@
 use Rattle.std.specs.Prelude.{◌≡◌, ℕ, ◌+◌, ◌≤◌, List, map, length, get_or}
 use Rattle.rules.specs.Sheet.{Sheet, Limits}
 use Rattle.rules.specs.Image.{part}
+pub use Rattle.limits.specs.Limits.{keys_at, facts_at, depths_at, history_at, form_size}
 use Rattle.packing.specs.Pack.{pack_entry, pack_fact}
-
-abbrev pub limits_of : (elements keys facts : ℕ) → Limits
-limits_of e k f = record { elements = e; keys = k; facts = f }
-
--- ---- places
-
-abbrev pub keys_at : ℕ
-keys_at = 5
-
--- Behind the keys there is room for one pair more than keys.
-abbrev pub facts_at : Limits → ℕ
-facts_at lim = 6 + lim.keys + lim.keys
-
-abbrev pub depths_at : Limits → ℕ
-depths_at lim = facts_at lim + lim.facts
-
-abbrev pub history_at : Limits → ℕ
-history_at lim = depths_at lim + lim.elements
-
-abbrev pub form_size : Limits → ℕ
-form_size lim = history_at lim + lim.elements
 
 -- ---- what a form shows
 

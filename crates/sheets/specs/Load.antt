@@ -1,6 +1,6 @@
 -- A form written region by region shows what was written; and what loading a slot's bytes writes.
-use Rattle.std.specs.Prelude.{◌≡◌, refl, ℕ, zero, suc, ◌+◌, ◌*◌, ◌≤◌, ◌<◌, min, List, [], ◌∷◌, ◌++◌, get_or, take, drop, set}
-use Rattle.std.proofs.Common.{sym, ap, ap₂, ◌∙◌, subst, arith, add-one, take_at, drop-cons}
+use Rattle.std.specs.Prelude.{◌≡◌, refl, ℕ, zero, suc, ◌+◌, ◌-◌, ◌*◌, ◌≤◌, ◌<◌, min, List, [], ◌∷◌, ◌++◌, get_or, take, drop, set}
+use Rattle.std.proofs.Common.{sym, ap, ap₂, ◌∙◌, subst, arith, add-one, append_assoc, length-append, length-drop, length-take-le, take-append-drop, take_at, drop-cons, drop-drop}
 use Rattle.std.proofs.Math.ListN.{length, get_or-append}
 use Rattle.std.proofs.lemmas.List.{set_at}
 use Rattle.std.proofs.Math.Seq.{append_snoc}
@@ -129,6 +129,22 @@ pub region_lent : (at room n k : ℕ) (p rest w ys : List ℕ) → k ≡ room �
     → Region at room n p w (put_mid at k w ys)
 region_lent at room n k p rest w ys e l q z =
     record { fill = ys; made = patched_part at k ys w l; size = l ∙ e; front = ap (take n) q ∙ take_at p rest n z }
+
+-- The front of a part was lent and came back as p; the rest of the part is as it was.
+pub region_front : (at room n k : ℕ) (p w ys : List ℕ) → n ≤ room → at + room ≤ length w → k ≡ n → length ys ≡ k → ys ≡ p → Region at room n p w (put_mid at k w ys)
+unfolding patched
+region_front at room n k p w ys h q e l r =
+    let rest : List ℕ = take (room - n) (drop (at + length ys) w) in
+    let z : length rest ≡ room - n = length-take-le (room - n) (drop (at + length ys) w) (omega (arith, length-drop (at + length ys) w)) in
+    let m : at + length ys + (room - n) ≡ at + length (ys ++ rest) = omega (arith, length-append ys rest) in
+    let d : drop (at + length ys) w ≡ rest ++ drop (at + length (ys ++ rest)) w =
+    sym (take-append-drop (room - n) (drop (at + length ys) w)) ∙ ap (λ (x : List ℕ). rest ++ x) (drop-drop (room - n) (at + length ys) w ∙ ap (λ j. drop j w) m) in
+    record {
+      fill = ys ++ rest;
+      made = patched_part at k ys w l ∙ ap (λ (x : List ℕ). take at w ++ ys ++ x) d ∙ (simp append_assoc);
+      size = length-append ys rest ∙ omega arith;
+      front = take_at ys rest n (omega arith) ∙ r;
+    }
 
 -- The counts as they were read, and as they stand in the form.
 pub record Counted (lim : Limits) (s : Bytes) (c k f : ℕ) (w w' : List ℕ) : Type 0 where

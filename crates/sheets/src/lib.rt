@@ -2,22 +2,21 @@
 // facts), then keys, room for pairs, facts, depths, and what each element is now. Loaded from a slot's bytes, and stored.
 #![tactic(auto)]
 
-pub mod limits;
-
 ghost use Rattle.std.specs.Prelude.{◌≡◌, ◌∷◌, [], ◌++◌, ◌+◌, ◌*◌, ◌≤◌, ◌<◌, min, length, take, drop};
 ghost use Rattle.base.specs.Lists.{from};
 ghost use Rattle.octets.specs.Patch.{patched};
 ghost use Rattle.octets.specs.Words.{numbers_at};
-ghost use Rattle.sheets.specs.Form.{limits_of, form_size};
+ghost use Rattle.limits.specs.Limits.{limits_of, form_size, slot_size};
 ghost use Rattle.sheets.specs.Load.{Counted, Region, Loaded};
 
-use octets::num16;
+use limits::Limits;
+use words::num16;
 
 // A count, or the limit if that is less.
 fn within(n: u64, limit: usize) -> usize
     ensures { (result ≡ min n limit) × (result ≤ limit) }
 {
-    if n < limit as u64 { n as usize } else { limit }
+    n.min(limit as u64) as usize
 }
 
 // The five counts.
@@ -33,14 +32,11 @@ fn set_counts(w: &mut [u64], number: u64, place: u64, created: u64, keys: u64, f
 }
 
 // Each element is itself.
-fn set_history(t: &mut [u64], n: usize)
-    requires { n ≤ length t.old }
-    ensures { t.new ≡ from 0 n ++ drop n t.old }
+fn set_history(t: &mut [u64])
+    ensures { t.new ≡ from 0 (length t.old) }
 {
-    let mut i = 0;
-    while i < n {
-        t[i] = i as u64;
-        i += 1;
+    for (i, e) in t.iter_mut().enumerate() {
+        *e = i as u64;
     }
 }
 
@@ -53,13 +49,13 @@ pub struct Counts {
 }
 
 // The counts of a slot into the working form.
-fn load_counts(slot: &[u8], w: &mut [u64], le: usize, lk: usize, lf: usize) -> Counts
+fn load_counts(slot: &[u8], w: &mut [u64], limits: Limits) -> Counts
     requires { 5 ≤ length w.old }
-    ensures { Counted (limits_of le lk lf) slot.now result.created result.keys result.facts w.old w.new }
+    ensures { Counted (limits_of limits) slot.now result.created result.keys result.facts w.old w.new }
 {
-    let created = within(num16(slot, 4), le);
-    let keys = within(num16(slot, 6), lk);
-    let facts = within(num16(slot, 8), lf);
+    let created = within(num16(slot, 4), limits.elements);
+    let keys = within(num16(slot, 6), limits.keys);
+    let facts = within(num16(slot, 8), limits.facts);
     set_counts(
         w,
         num16(slot, 0),
@@ -80,8 +76,8 @@ fn load_table(slot: &[u8], from: usize, w: &mut [u64], at: usize, room: usize, n
     requires { (from + 8 * n ≤ length slot.now) × ((n ≤ room) × (at + room ≤ length w.old)) }
     ensures { Region at room n (numbers_at slot.now from n) w.old w.new }
 {
-    let e = at + room;
-    octets::load_words(slot, from, &mut w[at..e], n);
+    let e = at + n;
+    octets::load_words(slot, from, &mut w[at..e]);
 }
 
 // The same, a byte for each.
@@ -89,8 +85,8 @@ fn load_depths(slot: &[u8], from: usize, w: &mut [u64], at: usize, room: usize, 
     requires { (from + n ≤ length slot.now) × ((n ≤ room) × (at + room ≤ length w.old)) }
     ensures { Region at room n (take n (drop from slot.now)) w.old w.new }
 {
-    let e = at + room;
-    octets::load_bytes(slot, from, &mut w[at..e], n);
+    let e = at + n;
+    octets::load_bytes(slot, from, &mut w[at..e]);
 }
 
 // The history at its start.
@@ -99,23 +95,30 @@ fn start_history(w: &mut [u64], at: usize, room: usize)
     ensures { Region at room room (from 0 room) w.old w.new }
 {
     let e = at + room;
-    set_history(&mut w[at..e], room);
+    set_history(&mut w[at..e]);
 }
 
 // A slot's bytes into the working form.
-pub fn load_sheet(slot: &[u8], w: &mut [u64], le: usize, lk: usize, lf: usize)
-    requires { (16 + 8 * lk + 8 * lf + le ≤ length slot.now) × (length w.old ≡ form_size (limits_of le lk lf)) }
-    ensures { Loaded (limits_of le lk lf) slot.now w.new }
+pub fn load_sheet(slot: &[u8], w: &mut [u64], limits: Limits)
+    requires { (slot_size (limits_of limits) ≤ length slot.now) × (length w.old ≡ form_size (limits_of limits)) }
+    ensures { Loaded (limits_of limits) slot.now w.new }
 {
-    let counts = load_counts(slot, w, le, lk, lf);
+    let counts = load_counts(slot, w, limits);
     let created = counts.created;
     let keys = counts.keys;
     let facts = counts.facts;
-    let f = 6 + lk + lk;
-    let d = f + lf;
-    let h = d + le;
-    load_table(slot, 16, w, 5, lk, keys);
-    load_table(slot, 16 + 8 * lk, w, f, lf, facts);
-    load_depths(slot, 16 + 8 * lk + 8 * lf, w, d, le, created);
-    start_history(w, h, le);
+    let f = limits.facts_at();
+    let d = limits.depths_at();
+    let h = limits.history_at();
+    load_table(slot, 16, w, 5, limits.keys, keys);
+    load_table(slot, 16 + 8 * limits.keys, w, f, limits.facts, facts);
+    load_depths(
+        slot,
+        16 + 8 * limits.keys + 8 * limits.facts,
+        w,
+        d,
+        limits.elements,
+        created,
+    );
+    start_history(w, h, limits.elements);
 }

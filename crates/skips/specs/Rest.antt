@@ -1,6 +1,6 @@
 -- What is left of things that follow one another, for a loop that walks over them.
-use Rattle.std.specs.Prelude.{◌≡◌, ℕ, ◌+◌, ◌-◌, ◌≤◌, ◌<◌, List, [], ◌∷◌, length}
-use Rattle.std.proofs.Common.{sym, subst, arith}
+use Rattle.std.specs.Prelude.{◌≡◌, ℕ, zero, suc, ◌+◌, ◌-◌, ◌≤◌, ◌<◌, List, [], ◌∷◌, length}
+use Rattle.std.proofs.Common.{sym, subst, arith, add-one}
 use Rattle.texts.specs.Reads.{Follow}
 use Rattle.texts.specs.Parts.{follow_grows}
 
@@ -67,3 +67,20 @@ module _ {A : Type 0} (R : ℕ → A → ℕ → Type 0) (g : Grows R) (len at n
 
   pub left_end : (i p : ℕ) → n ≤ i → Left R len at n i p → SkipsMany R len at n p
   left_end i p h r xs e f c l = rest_end R p (n - i) e (omega arith) (r xs e f c l)
+
+-- So many steps of R, each from a place within the text, lead from a place to another.
+abbrev pub Chain : (ℕ → ℕ → Type 0) → ℕ → ℕ → ℕ → ℕ → Type 0
+Chain R len zero p q = q ≡ p
+Chain R len (suc n) p q = (m : ℕ) × (Chain R len n p m × ((m ≤ len) × R m q))
+
+pub chain_more : (R : ℕ → ℕ → Type 0) (len i p m q : ℕ) → Chain R len i p m → m ≤ len → R m q → Chain R len (i + 1) p q
+chain_more R len i p m q c l r = rw add-one (m, (c, (l, r)))
+
+-- Steps that each walk over one thing walk over so many.
+module _ {A : Type 0} (T : ℕ → A → ℕ → Type 0) (g : Grows T) (len at n : ℕ) (R : ℕ → ℕ → Type 0) (s : (p q : ℕ) → p ≤ len → R p q → Within p len q × Skips T len p q) where
+  chain_left : (i p : ℕ) → i ≤ n → Chain R len i at p → Left T len at n i p
+  chain_left zero p h c = subst (Left T len at n 0) (sym c) (left_start T g len at n)
+  chain_left (suc i) p h (m, (c, (l, r))) = subst (λ j. Left T len at n j p) (add-one i) (left_next T g len at n i m p (omega arith) (chain_left i m (omega arith) c) (s m p l r).1)
+
+  pub chain_skips : (r : ℕ) → Chain R len n at r → SkipsMany T len at n r
+  chain_skips r c = left_end T g len at n n r (omega arith) (chain_left n r (omega arith) c)

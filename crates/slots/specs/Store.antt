@@ -8,7 +8,8 @@ use Rattle.rules.specs.Image.{word, padded, part}
 use Rattle.images.specs.Regions.{padded_length}
 use Rattle.octets.specs.Patch.{patched, patched_next, patched_all, flat_length}
 use Rattle.octets.specs.Words.{octets, octet, octets_length, octet_length}
-use Rattle.sheets.specs.Form.{View, view_of, Formed, keys_at, facts_at, depths_at}
+use Rattle.limits.specs.Limits.{keys_at, facts_at, depths_at}
+use Rattle.sheets.specs.Form.{View, view_of, Formed}
 use Rattle.sheets.specs.Parts.{part_length}
 
 unfoldable pub head_bytes : (number place created keys facts : ℕ) → Bytes

@@ -19,7 +19,6 @@ use Rattle.rules.specs.Bound.{Bound}
 use Rattle.rules.specs.Child.{Child, child}
 use Rattle.rules.specs.Sound.{sound_model}
 use Rattle.rules.specs.Step.{Answer, refuse, done, placed, with_placed, without_base, with_children}
-use Rattle.rules.specs.Calls.{bound_of}
 use Rattle.laws.specs.Firing.{Fired, firing_is, visits_within}
 use Rattle.soundness.specs.Tools.{known_yielded}
 use Rattle.soundness.specs.Join.{yielded_low}
@@ -57,8 +56,8 @@ pub record HasFired (text p : Bytes) (i q a : ℕ) (base env : List ℕ) : Type 
 pub has_fired : (text p : Bytes) (i q a : ℕ) (base env : List ℕ) (z : Standing text p) → Fires text p z i q a base env → HasFired text p i q a base env
 has_fired text p i q a base env z f = record { standing = z; fires = f }
 
-abbrev pub Branched : Bytes → Bytes → ℕ → ℕ → ℕ → ℕ → ℕ → List ℕ → List ℕ → ℕ → Bytes → Type 0
-Branched text p i q a kind number base env r p' = (z : Standing text p) → Fires text p z i q a base env → Went text p z kind number r p'
+abbrev pub Branched : Bytes → Bytes → ℕ → ℕ → ℕ → Bound → List ℕ → List ℕ → ℕ → Bytes → Type 0
+Branched text p i q a bd base env r p' = (z : Standing text p) → Fires text p z i q a base env → Went text p z bd r p'
 
 -- ---- numbers of visits
 
@@ -142,10 +141,7 @@ module _ (text p : Bytes) (z : Standing text p) (i q a : ℕ) (base env : List �
     pub head_count_lem : num text at ≡ length sq.head
     head_count_lem = ap (num text) is ∙ f.at.stands.head_count
 
-    module _ (kind number : ℕ) where
-      abbrev bd : Bound
-      bd = bound_of kind number
-
+    module _ (bd : Bound) where
       abbrev kids : List Child
       kids = kids_of bd L (num text a) (take (num text a) env) m sq.head
 
@@ -163,7 +159,7 @@ module _ (text p : Bytes) (z : Standing text p) (i q a : ℕ) (base env : List �
 
       -- ---- the ways out
 
-      pub branch_failed : num text at ≡ 0 → (p' : Bytes) → Freed L i p p' → Went text p z kind number 0 p'
+      pub branch_failed : num text at ≡ 0 → (p' : Bytes) → Freed L i p p' → Went text p z bd 0 p'
       unfolding done
       branch_failed n p' g =
           let e = step_failed L bd (rules z.book) s i f.rest f.waiting fired f.at.is (none (completed sq).head (whole_count ∙ n)) in
@@ -193,7 +189,7 @@ module _ (text p : Bytes) (z : Standing text p) (i q a : ℕ) (base env : List �
         over_is : (r : Bool) → 8 ≤ length env → AnyOver text (at + 2) (num text at) (num text a) bd L env base r → r ≡ over
         over_is r l o = o m (parent env refl) sq.head f.end (here env l)
 
-        pub branch_over : 8 ≤ length env → AnyOver text (at + 2) (num text at) (num text a) bd L env base true → Went text p z kind number 15 p
+        pub branch_over : 8 ≤ length env → AnyOver text (at + 2) (num text at) (num text a) bd L env base true → Went text p z bd 15 p
         unfolding refuse
         branch_over l o =
             let e = stepped ∙ kids_over s i f.rest place kids (over_is true l o) in
@@ -203,13 +199,13 @@ module _ (text p : Bytes) (z : Standing text p) (i q a : ℕ) (base env : List �
           room_here : r ≡ room_of s (length kids)
           room_here = rm s (shows text p z) z.tidy.once (cnt_all (λ j. j < length s.slots) (used s) z.tidy.there) ∙ ap (room_of s) (sym kids_count)
 
-          pub branch_full : (r ≡ 0 → ⊥) → Went text p z kind number r p
+          pub branch_full : (r ≡ 0 → ⊥) → Went text p z bd r p
           unfolding refuse
           branch_full h =
               let e = stepped ∙ kids_full s i f.rest place kids (over_is false l o) r room_here h in
               (ap (λ (x : Answer). x.refusal) (sym e), z.image ∙ ap (λ (x : Answer). pool_bytes L x.state) (sym e))
 
-          module _ (h : r ≡ 0) (k : ℕ) (np : NextPlace (get_or p 6 0) q (num text (count_at text)) k) (env₁ : List ℕ) (l₁ : 8 ≤ length env₁) (same : take (num text a) env₁ ≡ take (num text a) env) where
+          module _ (h : r ≡ 0) (k : ℕ) (np : NextPlace (strategy_of (get_or p 6 0)) q (num text (count_at text)) k) (env₁ : List ℕ) (l₁ : 8 ≤ length env₁) (same : take (num text a) env₁ ≡ take (num text a) env) where
             enough : (with_children s i f.rest place kids ≡ with_placed (without_base s i f.rest) (placed (free (without_base s i f.rest)) place s.next kids))
                 × ((length kids ≤ suc (length (free s))) × (s.next + length kids ≤ numbers))
             enough = kids_placed s i f.rest place kids (over_is false l o) (sym h ∙ room_here)
@@ -255,7 +251,7 @@ module _ (text p : Bytes) (z : Standing text p) (i q a : ℕ) (base env : List �
               left = subst (λ (c : List Child). s.next + length c ≤ numbers) (sym late_is) enough.1.1;
             }
 
-            pub branch_settled : (p' : Bytes) → Settled text i (at + 2) (num text at) (num text a) bd k env₁ base p p' → Went text p z kind number 0 p'
+            pub branch_settled : (p' : Bytes) → Settled text i (at + 2) (num text at) (num text a) bd k env₁ base p p' → Went text p z bd 0 p'
             unfolding with_placed done parting
             branch_settled p' st =
                 let e = stepped ∙ enough.0 in

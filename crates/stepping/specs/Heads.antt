@@ -1,8 +1,8 @@
 -- Where a sequent's head stands, the place that children get, and whether there is room for them.
 use Rattle.std.specs.Prelude.{◌≡◌, ◌++◌, ltb}
-use Rattle.std.proofs.Math.Path.{refl, sym, ap, subst}
+use Rattle.std.proofs.Math.Path.{refl, sym, ap}
 use Rattle.std.proofs.Common.{◌∙◌, mod-eq_of_lt, lt-ltb, le-ltb}
-use Prim.Native.Nat.{ℕ, zero, suc, ◌+◌, ◌-◌, ◌/◌, ◌%◌, ◌≤◌, ◌<◌}
+use Prim.Native.Nat.{ℕ, suc, ◌+◌, ◌-◌, ◌/◌, ◌%◌, ◌≤◌, ◌<◌}
 use Rattle.std.proofs.Math.Nat.{mod_self}
 use native.Mathlib.Omega.{arith}
 use Rattle.std.proofs.Math.ListN.{length, get_or, length-append}
@@ -10,8 +10,8 @@ use Rattle.base.specs.Branch.{if}
 use Rattle.base.specs.Lists.{All}
 use Rattle.rules.specs.Book.{Sequent}
 use Rattle.rules.specs.Reading.{Bytes, num}
-use Rattle.rules.specs.Fire.{place_after}
-use Rattle.rules.specs.Pool.{State, strategy_of, numbers, used, free}
+use Rattle.rules.specs.Fire.{Strategy, linear, fair, place_after}
+use Rattle.rules.specs.Pool.{State, numbers, used, free}
 use Rattle.rules.specs.Image.{word, long, pool_mark, pool_head, pool_bytes, head_size, sheet_size}
 use Rattle.images.specs.Pools.{pool_length}
 use Rattle.pools.specs.Count.{cnt}
@@ -37,28 +37,21 @@ head_skips text a r k q e t l = let g = sequent_grows (names_in text) text a q e
 
 -- ---- the place
 
-abbrev pub NextPlace : ℕ → ℕ → ℕ → ℕ → Type 0
-NextPlace strategy i n r = i < n → r ≡ place_after (strategy_of strategy) i n
+abbrev pub NextPlace : Strategy → ℕ → ℕ → ℕ → Type 0
+NextPlace strategy i n r = i < n → r ≡ place_after strategy i n
 
-module _ (strategy i n : ℕ) where
-  pub place_linear : strategy ≡ 0 → NextPlace strategy i n 0
-  unfolding place_after strategy_of
-  place_linear e h = subst (λ k. 0 ≡ place_after (strategy_of k) i n) (sym e) refl
+module _ (i n : ℕ) where
+  pub place_linear : NextPlace linear i n 0
+  unfolding place_after
+  place_linear h = refl
 
-  module _ (f : strategy ≡ 0 → ⊥) where
-    by_fair : (r : ℕ) → r ≡ suc i % n → NextPlace strategy i n r
-    unfolding place_after strategy_of
-    by_fair r e h = go strategy f
-      where
-        go : (k : ℕ) → (k ≡ 0 → ⊥) → r ≡ place_after (strategy_of k) i n
-        go zero g = absurd (g refl)
-        go (suc k) g = e
+  pub place_wraps : i + 1 ≡ n → NextPlace fair i n 0
+  unfolding place_after
+  place_wraps e h = let z : suc i ≡ n = omega arith in sym (ap (λ k. k % n) z ∙ mod_self n)
 
-    pub place_wraps : i + 1 ≡ n → NextPlace strategy i n 0
-    place_wraps e = by_fair 0 (let z : suc i ≡ n = omega arith in sym (ap (λ k. k % n) z ∙ mod_self n))
-
-    pub place_next : (i + 1 ≡ n → ⊥) → i < n → NextPlace strategy i n (i + 1)
-    place_next g l = by_fair (i + 1) (let z : i + 1 ≡ suc i = omega arith in let q : suc i < n = omega arith in z ∙ sym (mod-eq_of_lt q))
+  pub place_next : (i + 1 ≡ n → ⊥) → NextPlace fair i n (i + 1)
+  unfolding place_after
+  place_next g h = let z : i + 1 ≡ suc i = omega arith in let q : suc i < n = omega arith in z ∙ sym (mod-eq_of_lt q)
 
 -- ---- slots and numbers
 

@@ -1,5 +1,5 @@
 -- The ways out of the code of a step, in the numbers that the code has.
-use Rattle.std.specs.Prelude.{◌≡◌, ℕ, ◌+◌, ◌*◌, ◌≤◌, ◌<◌, Bool, true, false, List, ◌∷◌, ◌++◌}
+use Rattle.std.specs.Prelude.{◌≡◌, ℕ, ◌+◌, ◌*◌, ◌≤◌, ◌<◌, Bool, true, false, List, ◌∷◌, ◌++◌, Option, None, Some}
 use Rattle.std.proofs.Common.{sym, ◌∙◌, subst}
 use Rattle.std.proofs.Math.Path.{ap}
 use native.Mathlib.Omega.{arith}
@@ -12,7 +12,6 @@ use Rattle.rules.specs.Pool.{strategy_of, sheet_at, used}
 use Rattle.rules.specs.Image.{part, pool_bytes}
 use Rattle.rules.specs.Bound.{Bound}
 use Rattle.rules.specs.Step.{Answer, refuse, done}
-use Rattle.rules.specs.Calls.{bound_of}
 use Rattle.placing.specs.OneByOne.{free_count}
 use Rattle.pools.specs.Count.{cnt_all}
 use Rattle.pools.specs.Steps.{visited}
@@ -21,7 +20,6 @@ use Rattle.sheets.specs.Load.{Loaded}
 use Rattle.enter.specs.Grow.{Sturdy}
 use Rattle.firing.specs.Answers.{Elements}
 use Rattle.evaluate.specs.declared.Fired.{Fired}
-use Rattle.evaluate.specs.declared.Fired.TheVariants.{Nothing, At}
 use Rattle.evaluate.specs.Answers.{Answers}
 use Rattle.evalforms.specs.Basis.{Evaluated}
 use Rattle.children.specs.Derived.{AnyOver}
@@ -59,41 +57,38 @@ module _ (text p : Bytes) (i q a : ℕ) (base env : List ℕ) (g : HasFired text
       let x = subst (Elements env) (sym e) (elements text p z i q a base env f l) in
       (omega (arith, x.0), subst (All (λ k. k < 256)) (sym t) x.1)
 
-module _ (text p : Bytes) (i q a kind number : ℕ) (base env : List ℕ) (at n v : ℕ) (h : HeadAt text a at) (en : n ≡ num text at) (ev : v ≡ num text a) where
-  abbrev bd : Bound
-  bd = bound_of kind number
-
-  pub out_failed : n ≡ 0 → (p' : Bytes) → Freed L i p p' → Branched text p i q a kind number base env 0 p'
-  out_failed e p' fr z f = branch_failed text p z i q a base env f at (h f.at.sequent f.end f.at.stands f.at.fits) kind number (sym en ∙ e) p' fr
+module _ (text p : Bytes) (i q a : ℕ) (bd : Bound) (base env : List ℕ) (at n v : ℕ) (h : HeadAt text a at) (en : n ≡ num text at) (ev : v ≡ num text a) where
+  pub out_failed : n ≡ 0 → (p' : Bytes) → Freed L i p p' → Branched text p i q a bd base env 0 p'
+  out_failed e p' fr z f = branch_failed text p z i q a base env f at (h f.at.sequent f.end f.at.stands f.at.fits) bd (sym en ∙ e) p' fr
 
   module _ (no : n ≡ 0 → ⊥) (l : 8 ≤ length env) (o : Bool) (over : AnyOver text (at + 2) n v bd L env base o) where
     moved : (o' : Bool) → o ≡ o' → AnyOver text (at + 2) (num text at) (num text a) bd L env base o'
     moved o' e = subst (λ x. AnyOver text (at + 2) (num text at) (num text a) bd L env base x) e (subst (λ x. AnyOver text (at + 2) (num text at) x bd L env base o) ev (subst (λ x. AnyOver text (at + 2) x v bd L env base o) en over))
 
-    pub out_over : o ≡ true → Branched text p i q a kind number base env 15 p
-    out_over e z f = branch_over text p z i q a base env f at (h f.at.sequent f.end f.at.stands f.at.fits) kind number (λ x. no (en ∙ x)) l (moved true e)
+    pub out_over : o ≡ true → Branched text p i q a bd base env 15 p
+    out_over e z f = branch_over text p z i q a base env f at (h f.at.sequent f.end f.at.stands f.at.fits) bd (λ x. no (en ∙ x)) l (moved true e)
 
     module _ (e : o ≡ false) (r : ℕ) (room : RoomFor p n r) where
       room' : RoomFor p (num text at) r
       room' = subst (λ x. RoomFor p x r) en room
 
-      pub out_full : (r ≡ 0 → ⊥) → Branched text p i q a kind number base env r p
-      out_full w z f = branch_full text p z i q a base env f at (h f.at.sequent f.end f.at.stands f.at.fits) kind number (λ x. no (en ∙ x)) l (moved false e) r room' w
+      pub out_full : (r ≡ 0 → ⊥) → Branched text p i q a bd base env r p
+      out_full w z f = branch_full text p z i q a base env f at (h f.at.sequent f.end f.at.stands f.at.fits) bd (λ x. no (en ∙ x)) l (moved false e) r room' w
 
-      pub out_settled : r ≡ 0 → (k : ℕ) → NextPlace (get_or p 6 0) q (num text (count_at text)) k → (env₁ : List ℕ) → length env₁ ≡ length env → take v env₁ ≡ take v env
-          → (p' : Bytes) → Settled text i (at + 2) n v bd k env₁ base p p' → Branched text p i q a kind number base env 0 p'
+      pub out_settled : r ≡ 0 → (k : ℕ) → NextPlace (strategy_of (get_or p 6 0)) q (num text (count_at text)) k → (env₁ : List ℕ) → length env₁ ≡ length env → take v env₁ ≡ take v env
+          → (p' : Bytes) → Settled text i (at + 2) n v bd k env₁ base p p' → Branched text p i q a bd base env 0 p'
       out_settled w k np env₁ n₁ t p' st z f =
-          branch_settled text p z i q a base env f at (h f.at.sequent f.end f.at.stands f.at.fits) kind number (λ x. no (en ∙ x)) l (moved false e) r room' w k np env₁
+          branch_settled text p z i q a base env f at (h f.at.sequent f.end f.at.stands f.at.fits) bd (λ x. no (en ∙ x)) l (moved false e) r room' w k np env₁
           (omega arith) (subst (λ x. take x env₁ ≡ take x env) ev t) p'
           (subst (λ x. Settled text i (at + 2) (num text at) x bd k env₁ base p p') ev (subst (λ x. Settled text i (at + 2) x v bd k env₁ base p p') en st))
 
 -- ---- a step
 
-module _ (text p : Bytes) (kind number : ℕ) where
-  pub out_none : get_or p 12 0 ≡ 0 → Stepped text kind number p 14 p
+module _ (text p : Bytes) (bd : Bound) where
+  pub out_none : get_or p 12 0 ≡ 0 → Stepped text bd p 14 p
   unfolding refuse
   out_none e z =
-      let s = step_none L (bound_of kind number) (rules z.book) z.state (none_waits text p z e) in
+      let s = step_none L bd (rules z.book) z.state (none_waits text p z e) in
       (ap (λ (x : Answer). x.refusal) (sym s), z.image ∙ ap (λ (x : Answer). pool_bytes L x.state) (sym s))
 
   module _ (some : get_or p 12 0 ≡ 0 → ⊥) where
@@ -113,19 +108,19 @@ module _ (text p : Bytes) (kind number : ℕ) where
       pub on_base : (z : Standing text p) → Based text p z i (rest z) (waits z) base
       on_base z = based text p z i (rest z) (waits z) base l
 
-      module _ (env : List ℕ) (r : Fired) (ev : Evaluated text (get_or p 6 0) L base r env) where
+      module _ (env : List ℕ) (r : Option Fired) (ev : Evaluated text (strategy_of (get_or p 6 0)) L base r env) where
         answered : (z : Standing text p) → Answers text (firing (sheet_at z.state i).model (visited (rules z.book) z.state i)) env r
         answered z =
             subst (λ k. Answers text (firing (sheet_at z.state i).model (Rattle.rules.specs.Fire.visits (strategy_of k) (sheet_at z.state i).place (rules z.book))) env r) (strategy_is text p z)
             (ev z.book z.end z.reads (sheet_at z.state i) (on_base z).holds (small text p z) (neat text p z i (rest z) (waits z)) (omega arith))
 
-        pub fires_at : (q a e : ℕ) → r ≡ At q a e → (z : Standing text p) → Fires text p z i q a base env
-        fires_at q a e x z = record { rest = rest z; waiting = waits z; based = on_base z; end = e; at = subst (Answers text _ env) x (answered z) }
+        pub fires_at : (f : Fired) → r ≡ Some f → (z : Standing text p) → Fires text p z i f.number f.at base env
+        fires_at f x z = record { rest = rest z; waiting = waits z; based = on_base z; end = f.end; at = subst (Answers text _ env) x (answered z) }
 
-        pub out_done : r ≡ Nothing → (p' : Bytes) → Finished p p' → Stepped text kind number p 0 p'
+        pub out_done : r ≡ None → (p' : Bytes) → Finished p p' → Stepped text bd p 0 p'
         unfolding done used
         out_done x p' fin z =
-            let s = step_done L (bound_of kind number) (rules z.book) z.state i (rest z) (waits z) (subst (Answers text _ env) x (answered z)) in
+            let s = step_done L bd (rules z.book) z.state i (rest z) (waits z) (subst (Answers text _ env) x (answered z)) in
             (ap (λ (y : Answer). y.refusal) (sym s), fin L z.state (shows text p z) i (rest z) (waits z) full ∙ ap (λ (y : Answer). pool_bytes L y.state) (sym s))
           where
             full : length z.state.complete < 64
@@ -137,5 +132,5 @@ module _ (text p : Bytes) (kind number : ℕ) where
                 let v = lib.ListN.length-append z.state.complete z.state.bounded in
                 omega arith
 
-        pub out_branch : (q a e : ℕ) → r ≡ At q a e → (n : ℕ) (p' : Bytes) → Branched text p i q a kind number base env n p' → Stepped text kind number p n p'
-        out_branch q a e x n p' b z = b z (fires_at q a e x z)
+        pub out_branch : (f : Fired) → r ≡ Some f → (n : ℕ) (p' : Bytes) → Branched text p i f.number f.at bd base env n p' → Stepped text bd p n p'
+        out_branch f x n p' b z = b z (fires_at f x z)

@@ -17,7 +17,7 @@ use Rattle.rules.specs.Pool.{State, strategy_of, sheet_at}
 use Rattle.rules.specs.Image.{word, long, part, pool_mark, pool_head, pool_bytes, sheet_bytes, head_size, sheet_size, most_slots, list_in, pool_in}
 use Rattle.rules.specs.Sound.{sound_model, sound_sheet}
 use Rattle.rules.specs.Step.{Answer, step}
-use Rattle.rules.specs.Calls.{bound_of}
+use Rattle.rules.specs.Bound.{Bound}
 use Rattle.images.specs.Storable.{small_limits, StorableSheet}
 use Rattle.images.specs.Pools.{pool_length, pool_back}
 use Rattle.images.specs.Slots.{slot_part_lem}
@@ -35,7 +35,7 @@ use Rattle.packing.specs.Pack.{arity_of}
 use Rattle.tables.specs.Table.{Rising}
 use Rattle.tables.specs.Carry.{rising_is, facts_rising_is}
 use Rattle.look.specs.Shown.{neat_keys_fit, neat_facts_shown}
-use Rattle.sheets.specs.Form.{limits_of, View, view_of, Holds}
+use Rattle.sheets.specs.Form.{View, view_of, Holds}
 use Rattle.sheets.specs.Load.{Loaded, view_in}
 use Rattle.slots.specs.Carry.{loaded_holds}
 use Rattle.enter.specs.Grow.{Sturdy}
@@ -46,7 +46,7 @@ use Rattle.offspring.specs.All.{Ground, tidy_shows}
 
 -- The limits of this version, as code has them.
 abbrev pub L : Limits
-L = limits_of 64 128 128
+L = record { elements = 64; keys = 128; facts = 128 }
 
 pub record Standing (text p : Bytes) : Type 0 where
   pub book : Book
@@ -57,15 +57,15 @@ pub record Standing (text p : Bytes) : Type 0 where
   pub roomy : Roomy state
   pub image : p ≡ pool_bytes L state
 
-abbrev pub step_of : (text p : Bytes) → Standing text p → ℕ → ℕ → Answer
-step_of text p z kind number = step L (bound_of kind number) (rules z.book) z.state
+abbrev pub step_of : (text p : Bytes) → Standing text p → Bound → Answer
+step_of text p z bd = step L bd (rules z.book) z.state
 
 -- What a step comes to: the definition's refusal or 0, and the image of the definition's state.
-abbrev pub Went : (text p : Bytes) → Standing text p → ℕ → ℕ → ℕ → Bytes → Type 0
-Went text p z kind number r p' = (r ≡ (step_of text p z kind number).refusal) × (p' ≡ pool_bytes L (step_of text p z kind number).state)
+abbrev pub Went : (text p : Bytes) → Standing text p → Bound → ℕ → Bytes → Type 0
+Went text p z bd r p' = (r ≡ (step_of text p z bd).refusal) × (p' ≡ pool_bytes L (step_of text p z bd).state)
 
-abbrev pub Stepped : Bytes → ℕ → ℕ → Bytes → ℕ → Bytes → Type 0
-Stepped text kind number p r p' = (z : Standing text p) → Went text p z kind number r p'
+abbrev pub Stepped : Bytes → Bound → Bytes → ℕ → Bytes → Type 0
+Stepped text bd p r p' = (z : Standing text p) → Went text p z bd r p'
 
 -- ---- sequents are as many as counted
 

@@ -1,8 +1,9 @@
--- The first n entries of a table with a gap opened at a place, as a loop opens it from behind; and one entry put into the gap.
+-- The first n entries of a table with a gap opened at a place, by a loop from behind or by a copy; and one entry put into the gap.
 use Rattle.std.specs.Prelude.{◌≡◌, List, ◌∷◌, ◌++◌, length, get_or, take, set}
 use Prim.Native.Nat.{ℕ, zero, suc, ◌+◌, ◌-◌, ◌≤◌, ◌<◌}
 use Rattle.std.proofs.Math.Nat.{sub_self}
-use Rattle.std.proofs.Common.{add-one, sub-one, append_assoc, take-append-drop, take-suc, length-take-le}
+use Rattle.std.specs.List.{copy_within}
+use Rattle.std.proofs.Common.{◌∙◌, add-one, sub-one, append_assoc, take-append-drop, take-suc, length-take-le}
 use native.Mathlib.Omega.{arith}
 use Rattle.std.proofs.Math.ListN.{drop, length-take, get_or-append}
 use Rattle.std.proofs.Math.Seq.{drop-cons, append_snoc, get_or-take, take-take}
@@ -38,6 +39,13 @@ module _ (t : List ℕ) (n : ℕ) (room : n < length t) where
   pub opened_more : (i : ℕ) → 0 < i → i ≤ n → set (opened t i n) i (get_or (opened t i n) (i - 1) 0) ≡ opened t (i - 1) n
   opened_more zero p h = absurd (omega arith)
   opened_more (suc j) p h = rw sub-one (one_more_lem j h)
+
+  -- Those behind the place are copied one place higher.
+  pub opened_copied : (r : ℕ) → r ≤ n → copy_within t r n (r + 1) ≡ opened t r n
+  unfolding opened
+  opened_copied r h =
+      let e : r + 1 + (n - r) ≡ suc n = omega arith in
+      append_assoc (take (r + 1) t) (take (n - r) (drop r t)) (drop (r + 1 + (n - r)) t) ∙ (rw (e, add-one))
 
   -- The gap filled.
   pub opened_set : (r x : ℕ) → r ≤ n → set (opened t r n) r x ≡ insert_at r x (take n t) ++ drop (n + 1) t

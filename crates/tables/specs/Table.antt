@@ -2,9 +2,13 @@
 -- them for keys (`find`, `insert_key`), with numbers compared for keys.
 use Rattle.std.specs.Prelude.{◌≡◌, List, [], ◌∷◌, ◌++◌, Bool, true, false, length, get_or, take, drop}
 use Rattle.std.proofs.Math.Path.{refl, ap}
-use Rattle.std.proofs.Common.{sym, subst, arith, length-take-le, get_or-take}
-use Prim.Native.Nat.{ℕ, zero, suc, ◌+◌, ◌≤◌, ◌<◌, compare}
+use Rattle.std.proofs.Common.{sym, subst, arith}
+use Rattle.std.proofs.Math.Decide.{dec_lt}
+use Prim.Native.Nat.{ℕ, zero, suc, ◌≤◌, ◌<◌, compare}
 use Rattle.std.proofs.Math.Option.{Option, none, some, none-ne-some, some-injective}
+use Rattle.std.specs.Prelude as std
+use Rattle.std.specs.Prelude.{Some, None}
+use Rattle.std.specs.Coded.{×_prop, Unit-prop, le_prop}
 use Rattle.base.specs.Branch.{three, case_o}
 use Rattle.base.specs.Lists.{All}
 use Rattle.base.specs.ListLaws.{all_all, all_get_d}
@@ -31,7 +35,21 @@ unfoldable pub Rising : List ℕ → Type 0
 Rising [] = Unit
 Rising (x ∷ xs) = All (λ y. key_of x < key_of y) xs × Rising xs
 
--- What a look answers: a value, which is below 256, or 256 for none.
+all_prop : (P : ℕ → Type 0) → ((x : ℕ) → IsProp (P x)) → (xs : List ℕ) → IsProp (All P xs)
+all_prop P p [] = Unit-prop
+all_prop P p (x ∷ xs) = ×_prop (p x) (all_prop P p xs)
+
+pub rising_prop : (xs : List ℕ) → IsProp (Rising xs)
+unfolding Rising
+rising_prop [] = Unit-prop
+rising_prop (x ∷ xs) = ×_prop (all_prop (λ y. key_of x < key_of y) (λ y. le_prop) xs) (rising_prop xs)
+
+-- An option of the definitions as code has it.
+abbrev pub option_of : {A : Type 0} → Option A → std.Option A
+option_of none = None
+option_of (some v) = Some v
+
+-- The number of a value, which is below 256, or 256 for none.
 unfoldable pub or_none : Option ℕ → ℕ
 or_none none = 256
 or_none (some v) = v
@@ -66,26 +84,31 @@ rank_below q (x ∷ xs) zero l h = three_ways (λ r. r ≤ 0) q (key_of x) _ _ _
 rank_below q (x ∷ xs) (suc m) l h =
     three_ways (λ r. r ≤ suc m) q (key_of x) _ _ _ (λ _. omega arith) (λ _. omega arith) (λ _. omega (arith, rank_below q xs m (omega arith) h))
 
--- What halving knows: the place lies from lo to hi.
-pub record Between (q : ℕ) (xs : List ℕ) (lo hi : ℕ) : Type 0 where
-  pub order : lo ≤ hi
-  pub within : hi ≤ length xs
-  pub low : lo ≤ rank q xs
-  pub high : rank q xs ≤ hi
+-- In a table that rises, the key of an entry is below those of all that follow.
+pub rising_below : (q : ℕ) (xs : List ℕ) → Rising xs → (d i j : ℕ) → i ≤ j → j < length xs → key_of (get_or xs j d) < q → key_of (get_or xs i d) < q
+unfolding Rising
+rising_below q [] r d i j h l k = absurd (omega arith)
+rising_below q (x ∷ xs) r d zero zero h l k = k
+rising_below q (x ∷ xs) r d zero (suc j) h l k =
+    let b : key_of x < key_of (get_or xs j d) = all_get_d (λ y. key_of x < key_of y) xs j d (omega arith) r.0 in
+    omega arith
+rising_below q (x ∷ xs) r d (suc i) zero h l k = absurd (omega arith)
+rising_below q (x ∷ xs) r d (suc i) (suc j) h l k = rising_below q xs r.1 d i j (omega arith) (omega arith) k
 
-module _ (q : ℕ) (t : List ℕ) (n lo hi m : ℕ) (fits : n ≤ length t) (b : Between q (take n t) lo hi) (l : lo ≤ m) (h : m < hi) where
-  within : (hi ≤ n) × (get_or (take n t) m 0 ≡ get_or t m 0)
-  within = let w = length-take-le n t fits in (omega arith, get_or-take n t m 0 (omega arith))
+-- The place that has the keys below q before it and the others behind it.
+pub rank_point : (q : ℕ) (xs : List ℕ) → Rising xs → (r : ℕ) → r ≤ length xs → ((i : ℕ) → i < r → key_of (get_or xs i 0) < q)
+    → ((i : ℕ) → r ≤ i → i < length xs → q ≤ key_of (get_or xs i 0)) → r ≡ rank q xs
+rank_point q xs rise r fits low high = go (r_le r fits low) le_r
+  where
+    r_le : (r : ℕ) → r ≤ length xs → ((i : ℕ) → i < r → key_of (get_or xs i 0) < q) → r ≤ rank q xs
+    r_le zero f l = omega arith
+    r_le (suc m) f l = rank_above q xs rise m (omega arith) (l m (omega arith))
 
-  pub upper_half : Rising (take n t) → key_of (get_or t m 0) < q → Between q (take n t) (m + 1) hi
-  upper_half r k =
-      let p = rank_above q (take n t) r m (omega arith) (omega (arith, within.1)) in
-      record { order = omega arith; within = omega arith; low = omega arith; high = omega arith }
+    le_r : rank q xs ≤ r
+    le_r = elim (dec_lt r (length xs)) [ yes h ↦ rank_below q xs r h (high r (omega arith) h) | no h ↦ omega (arith, rank_le q xs) ]
 
-  pub lower_half : q ≤ key_of (get_or t m 0) → Between q (take n t) lo m
-  lower_half k =
-      let p = rank_below q (take n t) m (omega arith) (omega (arith, within.1)) in
-      record { order = omega arith; within = omega arith; low = omega arith; high = omega arith }
+    go : r ≤ rank q xs → rank q xs ≤ r → r ≡ rank q xs
+    go a b = omega arith
 
 -- ---- looking, by the place
 
@@ -167,7 +190,7 @@ put_rises e (x ∷ xs) r = three_ways Rising (key_of e) (key_of x) _ _ _
 
 -- ---- what a look's answer says
 
-look_octet : (q : ℕ) (xs : List ℕ) (v : ℕ) → look_in q xs ≡ some v → v < 256
+pub look_octet : (q : ℕ) (xs : List ℕ) (v : ℕ) → look_in q xs ≡ some v → v < 256
 unfolding look_in
 look_octet q [] v = λ e. absurd (none-ne-some v e)
 look_octet q (x ∷ xs) v = three_ways (λ (o : Option ℕ). o ≡ some v → v < 256) q (key_of x) _ _ _

@@ -1,14 +1,18 @@
 -- The ways out of looking and putting in, over the first n entries of a longer list: one law for each.
 use Rattle.std.specs.Prelude.{◌≡◌, ℕ, suc, ◌+◌, ◌-◌, ◌≤◌, ◌<◌, List, [], ◌∷◌, ◌++◌, true, false, length, take, drop, set}
 use Rattle.std.proofs.Common.{sym, ap₂, ◌∙◌, subst, arith, add-one, append_assoc, length-append, length-take, length-drop, drop_of_length-le, take-append-drop, take_at, drop_at, take-take, length-take-le, get_or-take, drop-drop}
-use Rattle.std.proofs.Math.Path.{ap}
+use Rattle.std.proofs.Math.Path.{refl, ap}
+use Rattle.std.proofs.Math.Option.{Option, none, some}
+use Rattle.std.specs.Prelude as std
+use Rattle.std.specs.Prelude.{Some, None}
+use Rattle.std.proofs.lemmas.Option.{none-some, same_Some}
 use Rattle.base.specs.Branch.{case_o}
 use Rattle.std.proofs.Math.ListN.{get_or}
 use Rattle.std.proofs.lemmas.List.{set_split}
-use Rattle.std.proofs.Math.Seq.{append_snoc}
+use Rattle.std.proofs.Math.Seq.{append_snoc, take-length}
 use Rattle.images.specs.Kept.{drop_take}
 use Rattle.packing.specs.Replace.{key_of, value_of}
-use Rattle.tables.specs.Table.{rank, look_in, put_in, or_none, is_some, Here, look_here, look_none, over, insert_at, put_over, put_new}
+use Rattle.tables.specs.Table.{rank, look_in, put_in, or_none, option_of, is_some, Here, look_here, look_none, over, insert_at, put_over, put_new}
 
 -- What putting x among the first n entries of t gives: the count afterwards and the list.
 pub record Put (x n : ℕ) (t : List ℕ) (r : ℕ) (t' : List ℕ) : Type 0 where
@@ -37,21 +41,44 @@ module _ (t : List ℕ) (n q r : ℕ) (fits : n ≤ length t) (e : r ≡ rank q 
   pub other : r < n → (key_of (get_or t r 0) ≡ q → ⊥) → Here q (take n t) (rank q (take n t)) → ⊥
   other l k h = k (ap key_of (sym (get_or-take n t r 0 l)) ∙ (subst (Here q (take n t)) (sym e) h).1)
 
-  pub looked_found : r < n → key_of (get_or t r 0) ≡ q → value_of (get_or t r 0) ≡ or_none (look_in q (take n t))
-  unfolding or_none
-  looked_found l k = ap value_of (sym (get_or-take n t r 0 l) ∙ ap (λ i. get_or (take n t) i 0) e) ∙ ap or_none (sym (look_here q (take n t) (found l k)))
+  pub absent : (r < n → key_of (get_or t r 0) ≡ q → ⊥) → Here q (take n t) (rank q (take n t)) → ⊥
+  absent k h =
+      let l : r < n = omega (arith, width, h.0) in
+      k l (ap key_of (sym (get_or-take n t r 0 l)) ∙ (subst (Here q (take n t)) (sym e) h).1)
 
-  pub looked_none : (Here q (take n t) (rank q (take n t)) → ⊥) → 256 ≡ or_none (look_in q (take n t))
-  unfolding or_none
-  looked_none h = ap or_none (sym (look_none q (take n t) h))
+-- What a whole table has at the place of a key, as code answers.
+module _ (t : List ℕ) (q r : ℕ) (e : r ≡ rank q t) where
+  pub whole_found : r < length t → key_of (get_or t r 0) ≡ q → Some (value_of (get_or t r 0)) ≡ option_of (look_in q t)
+  whole_found l k =
+      let h : Here q t (rank q t) = subst (Here q t) e (l, k) in
+      ap (λ i. Some (value_of (get_or t i 0))) e ∙ ap option_of (sym (look_here q t h))
 
-  pub seen_found : r < n → key_of (get_or t r 0) ≡ q → true ≡ is_some (look_in q (take n t))
-  unfolding is_some case_o
-  seen_found l k = ap is_some (sym (look_here q (take n t) (found l k)))
+  pub whole_past : length t ≤ r → None ≡ option_of (look_in q t)
+  whole_past l = ap option_of (sym (look_none q t (λ h. omega (arith, h.0, e))))
 
-  pub seen_none : (Here q (take n t) (rank q (take n t)) → ⊥) → false ≡ is_some (look_in q (take n t))
-  unfolding is_some case_o
-  seen_none h = ap is_some (sym (look_none q (take n t) h))
+  pub whole_other : (key_of (get_or t r 0) ≡ q → ⊥) → None ≡ option_of (look_in q t)
+  whole_other k = ap option_of (sym (look_none q t (λ h. k (ap (λ i. key_of (get_or t i 0)) e ∙ h.1))))
+
+-- What code answers tells what the table has.
+pub look_some : (q : ℕ) (xs : List ℕ) (v : ℕ) → Some v ≡ option_of (look_in q xs) → look_in q xs ≡ some v
+look_some q xs v e = go (look_in q xs) e
+  where
+    go : (o : Option ℕ) → Some v ≡ option_of o → o ≡ some v
+    go none i = absurd (none-some v (sym i))
+    go (some x) i = ap some (sym (same_Some v x i))
+
+pub look_missing : (q : ℕ) (xs : List ℕ) (r : std.Option ℕ) → r ≡ option_of (look_in q xs) → std.is_some r ≡ false → look_in q xs ≡ none
+look_missing q xs r e n = go (look_in q xs) e
+  where
+    go : (o : Option ℕ) → r ≡ option_of o → o ≡ none
+    go none i = refl
+    go (some x) i = let z : true ≡ false = sym (ap std.is_some i) ∙ n in absurd (cc)
+
+-- Whether there is a value, as code answers.
+pub some_is : (o : Option ℕ) (r : std.Option ℕ) → r ≡ option_of o → std.is_some r ≡ is_some o
+unfolding is_some case_o
+some_is none r e = ap std.is_some e
+some_is (some v) r e = ap std.is_some e
 
 module _ (t : List ℕ) (n x r : ℕ) (e : r ≡ rank (key_of x) (take n t)) where
   -- Over an entry with that key.

@@ -1,121 +1,72 @@
-// Sorted tables of packed entries: the first n of a slice of numbers, in the order of their keys, which are the numbers / 256.
-// A key's value is the number % 256. A table of facts is one whose values are 0.
+// Sorted tables of packed entries: numbers in the order of their keys, which are the numbers / 256. A key's value is the number % 256. A
+// table of facts is one whose values are 0.
 #![tactic(auto)]
 
-ghost use Rattle.std.specs.Prelude.{◌≡◌, ◌++◌, ◌+◌, ◌≤◌, ◌<◌, length, take, drop};
-ghost use Rattle.tables.specs.Table.{rank, look_in, or_none, is_some, Rising, insert_at};
+ghost use Rattle.std.specs.Prelude.{◌≡◌, ◌≤◌, ◌<◌, length, take, IfSome, MatchOption};
+ghost use Rattle.std.proofs.Math.Option.{none, some};
+ghost use Rattle.tables.specs.Table.{rank, look_in, option_of, is_some, Rising};
 ghost use Rattle.packing.specs.Replace.{key_of};
 ghost use Rattle.tables.specs.Ways.{Put};
 ghost use Rattle.tables.specs.Last.{NoneAbove};
 
 // How many entries stand before the first whose key is not below q, by halving.
-pub fn rank(t: &[u64], n: usize, q: u64) -> usize
-    requires { (n ≤ length t.now) × Rising (take n t.now) }
-    ensures { (result ≡ rank q (take n t.now)) × (result ≤ n) }
+pub fn rank(t: &[u64], q: u64) -> usize
+    requires { Rising t.now }
+    ensures { (result ≡ rank q t.now) × (result ≤ length t.now) }
 {
-    let mut lo = 0;
-    let mut hi = n;
-    while lo < hi {
-        let mid = lo + (hi - lo) / 2;
-        if t[mid] / 256 < q {
-            lo = mid + 1;
-        } else {
-            hi = mid;
-        }
-    }
-    lo
+    t.partition_point(|x| *x / 256 < q)
 }
 
-// The value of key q, or 256 if it has none.
-pub fn look(t: &[u64], n: usize, q: u64) -> u64
-    requires { (n ≤ length t.now) × Rising (take n t.now) }
-    ensures { (result ≡ or_none (look_in q (take n t.now))) × (result ≤ 256) }
+// The value of key q, if it has one.
+pub fn look(t: &[u64], q: u64) -> Option<u64>
+    requires { Rising t.now }
+    ensures { (result ≡ option_of (look_in q t.now)) × IfSome result (λ v. v < 256) }
 {
-    let at = rank(t, n, q);
-    if at >= n {
-        return 256;
-    }
-    let x = t[at];
-    if x / 256 == q {
-        return x % 256;
-    }
-    256
+    let x = *t.get(rank(t, q))?;
+    if x / 256 == q { Some(x % 256) } else { None }
 }
 
 // Is there an entry with key q?
-pub fn contains(t: &[u64], n: usize, q: u64) -> bool
-    requires { (n ≤ length t.now) × Rising (take n t.now) }
-    ensures { result ≡ is_some (look_in q (take n t.now)) }
+pub fn contains(t: &[u64], q: u64) -> bool
+    requires { Rising t.now }
+    ensures { result ≡ is_some (look_in q t.now) }
 {
-    let at = rank(t, n, q);
-    if at >= n {
-        return false;
-    }
-    let x = t[at];
-    if x / 256 == q {
-        return true;
-    }
-    false
+    look(t, q).is_some()
 }
 
-// x goes in before entry at; that and those behind it move up.
-pub fn insert(t: &mut [u64], n: usize, at: usize, x: u64)
-    requires { (at ≤ n) × (n < length t.old) }
-    ensures { t.new ≡ insert_at at x (take n t.old) ++ drop (n + 1) t.old }
-{
-    let mut i = n;
-    while at < i {
-        t[i] = t[i - 1];
-        i -= 1;
-    }
-    t[at] = x;
-}
-
-// The entry x goes into its place, over one with its key if there is one. The count afterwards.
+// The entry x goes into its place among the first n, over one with its key if there is one. The count afterwards. The table is told by
+// its count, since there is room behind it for one more.
 pub fn put(t: &mut [u64], n: usize, x: u64) -> usize
     requires { (n < length t.old) × Rising (take n t.old) }
     ensures { Put x n t.old result t.new }
 {
-    let at = rank(t, n, x / 256);
-    if at >= n {
-        t[n] = x;
-        return n + 1;
-    }
-    let old = t[at];
-    if old / 256 == x / 256 {
+    let at = rank(&t[..n], x / 256);
+    if at < n && t[at] / 256 == x / 256 {
         t[at] = x;
         return n;
     }
-    insert(t, n, at, x);
+    t.copy_within(at..n, at + 1);
+    t[at] = x;
     n + 1
 }
 
 // The value of key q where no key is above it, so that only the last can be it.
-pub fn look_last(t: &[u64], n: usize, q: u64) -> u64
-    requires { (n ≤ length t.now) × (Rising (take n t.now) × NoneAbove q (take n t.now)) }
-    ensures { (result ≡ or_none (look_in q (take n t.now))) × (result ≤ 256) }
+#[tactic(auto, using(crate::specs::Last::last_has, crate::specs::Last::last_other, crate::specs::Last::last_empty))]
+pub fn look_last(t: &[u64], q: u64) -> Option<u64>
+    requires { Rising t.now × NoneAbove q t.now }
+    ensures { MatchOption result (look_in q t.now ≡ none) (λ v. (look_in q t.now ≡ some v) × (v < 256)) }
 {
-    if n == 0 {
-        return 256;
-    }
-    let x = t[n - 1];
-    if x / 256 == q {
-        return x % 256;
-    }
-    256
+    let x = *t.last()?;
+    if x / 256 == q { Some(x % 256) } else { None }
 }
 
 // The entry x put in where no key is above its own: behind the last, or over it. Nothing moves. The count afterwards.
+#[tactic(auto, using(crate::specs::Last::put_end, crate::specs::Last::put_over_last))]
 pub fn put_last(t: &mut [u64], n: usize, x: u64) -> usize
     requires { (n < length t.old) × (Rising (take n t.old) × NoneAbove (key_of x) (take n t.old)) }
     ensures { Put x n t.old result t.new }
 {
-    if n == 0 {
-        t[n] = x;
-        return n + 1;
-    }
-    let old = t[n - 1];
-    if old / 256 == x / 256 {
+    if n > 0 && t[n - 1] / 256 == x / 256 {
         t[n - 1] = x;
         return n;
     }

@@ -1,6 +1,6 @@
 -- Take as a whole: the refusals 11, 12 and 13 behind the book's check, and the promise.
-use Rattle.std.specs.Prelude.{◌≡◌, ℕ, ◌-◌, ◌/◌, ◌<◌, Bool, true, false, length, T, ltb}
-use Rattle.std.proofs.Common.{sym, ◌∙◌, subst, ltb-true}
+use Rattle.std.specs.Prelude.{◌≡◌, ℕ, ◌-◌, ◌/◌, ◌≤◌, ◌<◌, Bool, true, false, length, T, ltb}
+use Rattle.std.proofs.Common.{sym, ◌∙◌, subst, arith, lt-ltb, le-ltb}
 use Rattle.std.proofs.Math.Path.{ap}
 use Rattle.rules.specs.Book.{Book}
 use Rattle.rules.specs.Reading.{Bytes, Read, got, refused, case_read, read_book}
@@ -13,44 +13,44 @@ use Rattle.sheetparts.specs.Tests.{byte_at}
 use Rattle.sheetparts.specs.Ways.{on, off}
 use Rattle.poolcheck.specs.Pools.{sound_frame}
 use Rattle.poolcheck.specs.Books.{right_slots, PoolSound}
-use Rattle.openings.specs.Order.{first_refusal, first_refuses, none_refused}
+use Rattle.settings.specs.declared.Source.{Source}
+use Rattle.settings.specs.Codes.{code_of_source, source_low}
+use Rattle.openings.specs.Open.{right_true}
 use Rattle.takings.specs.Take.{take_first, take_going, take_rest, Took, took_by, took_is, Ready}
 
 -- What take does behind the book's check, for every book that the text is read as.
 abbrev pub TookRest : Bytes → Bytes → ℕ → Bytes → ℕ → Bytes → Bytes → Type 0
 TookRest text pool list out answer after written = (b : Book) → Accepted text b → Took (take_rest b pool list out) answer after written
 
-module _ (text pool : Bytes) (list : ℕ) (out : Bytes) (n : ℕ) (e : n ≡ first_refusal (right_length (length pool)) (ltb list 2)) where
-  pub rest_unfit : (n ≡ 0 → ⊥) → TookRest text pool list out n pool out
-  unfolding take_rest lists
-  rest_unfit z b ok =
-      took_by _ _ _ _ _ (first_refuses (right_length (length pool)) (ltb list 2) (λ k. take_outcome k pool out) _ (λ q. z (e ∙ q)) ∙ ap (λ k. take_outcome k pool out) (sym e)) (took_is n pool out)
+module _ (text pool : Bytes) (list : ℕ) (out : Bytes) where
+  pub rest_eleven : right_length (length pool) ≡ false → TookRest text pool list out 11 pool out
+  unfolding take_rest
+  rest_eleven e b ok = took_by _ _ _ _ _ (off (right_length (length pool)) _ _ e) (took_is 11 pool out)
 
-  module _ (z : n ≡ 0) where
-    fit : (true ≡ right_length (length pool)) × (true ≡ ltb list 2)
-    fit = none_refused (right_length (length pool)) (ltb list 2) (sym e ∙ z)
+  module _ (e : right_length (length pool) ≡ true) where
+    pub rest_twelve : 2 ≤ list → TookRest text pool list out 12 pool out
+    unfolding take_rest lists
+    rest_twelve h b ok = took_by _ _ _ _ _ (on (right_length (length pool)) _ _ e ∙ off (ltb list 2) _ _ (le-ltb list 2 h)) (took_is 12 pool out)
 
-    pub known_list : list < 2
-    known_list = ltb-true list 2 (sym fit.1)
+    pub ready : ReadAs text → ((i : ℕ) → byte_at pool i < 256) → (r : Bool) → PoolSound text pool r → r ≡ true → Ready pool
+    ready g bytes r s q =
+        let k = right_slots (length pool) (right_true (length pool) e) in
+        let f = sound_frame g.book pool ((length pool - 208) / 2128) k.0 bytes (subst T (sym (sym (s g.book (accepted text g.book g.end g.reads)) ∙ q)) tt) in
+        record { slots = (length pool - 208) / 2128; long = k.0; frame = f.0; image = f.1 }
 
-    pub right : T (right_length (length pool))
-    right = subst T fit.0 tt
+    module _ (source : Source) (is : code_of_source source ≡ list) (r : Bool) (s : PoolSound text pool r) where
+      known : ltb list 2 ≡ true
+      known = let l = source_low source in lt-ltb list 2 (omega arith)
 
-    module _ (r : Bool) (s : PoolSound text pool r) where
       pub rest_unsound : r ≡ false → TookRest text pool list out 13 pool out
       unfolding take_rest lists
-      rest_unsound q b ok = took_by _ _ _ _ _ (on (right_length (length pool)) _ _ (sym fit.0) ∙ on (ltb list 2) _ _ (sym fit.1) ∙ off (sound limits b pool) _ _ (sym (s b ok) ∙ q)) (took_is 13 pool out)
+      rest_unsound q b ok = took_by _ _ _ _ _ (on (right_length (length pool)) _ _ e ∙ on (ltb list 2) _ _ known ∙ off (sound limits b pool) _ _ (sym (s b ok) ∙ q)) (took_is 13 pool out)
 
-      pub rest_going : r ≡ true → (answer : ℕ) (after written : Bytes) → Took (take_going pool list out) answer after written → TookRest text pool list out answer after written
+      pub rest_going : r ≡ true → (answer : ℕ) (after written : Bytes) → Took (take_going pool (code_of_source source) out) answer after written → TookRest text pool list out answer after written
       unfolding take_rest lists
       rest_going q answer after written t b ok =
-          took_by _ _ _ _ _ (on (right_length (length pool)) _ _ (sym fit.0) ∙ on (ltb list 2) _ _ (sym fit.1) ∙ on (sound limits b pool) _ _ (sym (s b ok) ∙ q)) t
-
-      pub ready : ReadAs text → ((i : ℕ) → byte_at pool i < 256) → r ≡ true → Ready pool
-      ready g bytes q =
-          let k = right_slots (length pool) right in
-          let f = sound_frame g.book pool ((length pool - 208) / 2128) k.0 bytes (subst T (sym (sym (s g.book (accepted text g.book g.end g.reads)) ∙ q)) tt) in
-          record { slots = (length pool - 208) / 2128; long = k.0; frame = f.0; image = f.1 }
+          took_by _ _ _ _ _ (on (right_length (length pool)) _ _ e ∙ on (ltb list 2) _ _ known ∙ on (sound limits b pool) _ _ (sym (s b ok) ∙ q))
+          (subst (λ j. Took (take_going pool j out) answer after written) is t)
 
 -- ---- the promise
 

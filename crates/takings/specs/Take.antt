@@ -1,4 +1,4 @@
--- Take behind the book's check, and that what its loops write is the definition's outcome: the first sheet of a list is copied, its
+-- Take behind the book's check, and that what it writes is the definition's outcome: the first sheet of a list is copied, its
 -- slot is all zero, and the list goes on behind it.
 use Rattle.std.specs.Prelude.{◌≡◌, refl, get_or, replicate, T, ltb}
 use Rattle.std.proofs.Math.Path.{sym, ap, ap₂, subst}

@@ -1,5 +1,5 @@
 -- One fact more on the working form: the writes that put it there, what the form shows afterwards, and what that says of the model.
-use Rattle.std.specs.Prelude.{◌≡◌, refl, Bool, true, false, ◌⊎◌, length, get_or, drop, T}
+use Rattle.std.specs.Prelude.{◌≡◌, refl, Bool, true, false, ◌⊎◌, length, get_or, drop, T, Result, Ok, Err}
 use Rattle.std.proofs.Math.Path.{sym, ap, ap₂, subst}
 use Rattle.std.proofs.Common.{◌∙◌, arith, inr, length-set, get_or-set_same, get_or-set_other}
 use Prim.Native.Nat.{ℕ, suc, ◌+◌, ◌*◌, ◌≤◌, ◌<◌, Ordering}
@@ -26,6 +26,7 @@ use Rattle.sheets.specs.Parts.{part_here, part_before, part_behind, count_before
 use Rattle.sheets.specs.Form.{View, view_of, keys_at, facts_at, depths_at, history_at, form_size}
 use Rattle.enter.specs.Grow.{Sturdy, part_set_behind}
 use Rattle.enter.specs.Keep.{Carries, carries_view}
+use Rattle.telling.specs.declared.TooLarge.{TooLarge}
 
 -- ---- on the form
 
@@ -111,10 +112,13 @@ module _ (lim : Limits) (k n x : ℕ) (w ys : List ℕ) (s : Sturdy lim w) (ek :
 
 -- ---- what putting a fact in says: it is in its place, or was there already, or there is no room
 
-pub record PutFact (lim : Limits) (q : ℕ) (w : List ℕ) (r : Bool) (w' : List ℕ) : Type 0 where
+abbrev pub Stored : Limits → ℕ → List ℕ → Result (Unit {0}) TooLarge → List ℕ → Type 0
+Stored lim q w (Ok done) w' = (view_of lim w' ≡ holding (q * 256) (view_of lim w)) ⊎ ((view_of lim w' ≡ view_of lim w) × (true ≡ is_some (look_in q (view_of lim w).facts)))
+Stored lim q w (Err e) w' = (lim.facts ≤ length (view_of lim w).facts) × (false ≡ is_some (look_in q (view_of lim w).facts))
+
+pub record PutFact (lim : Limits) (q : ℕ) (w : List ℕ) (r : Result (Unit {0}) TooLarge) (w' : List ℕ) : Type 0 where
   pub sturdy : Sturdy lim w'
-  pub stored : r ≡ true → (view_of lim w' ≡ holding (q * 256) (view_of lim w)) ⊎ ((view_of lim w' ≡ view_of lim w) × (true ≡ is_some (look_in q (view_of lim w).facts)))
-  pub full : r ≡ false → (lim.facts ≤ length (view_of lim w).facts) × (false ≡ is_some (look_in q (view_of lim w).facts))
+  pub stored : Stored lim q w r w'
 
 true_false : true ≡ false → ⊥
 true_false e = subst T e tt
@@ -122,19 +126,21 @@ true_false e = subst T e tt
 module _ (lim : Limits) (q : ℕ) (w : List ℕ) (s : Sturdy lim w) where
   -- The facts' room was lent as k entries and came back as ys.
   pub exit_put : (k n : ℕ) (ys : List ℕ) → k ≡ lim.facts → length ys ≡ k → get_or w 4 0 < lim.facts → Put (q * 256) (get_or w 4 0) (take k (drop (facts_at lim) w)) n ys
-      → PutFact lim q w true (after lim k n w ys)
+      → (done : Unit {0}) → PutFact lim q w (Ok done) (after lim k n w ys)
   unfolding view_of
-  exit_put k n ys ek ly free p =
+  exit_put k n ys ek ly free p done =
       let x = q * 256 in
       let put : take n ys ≡ put_in x (view_of lim w).facts = put_front p ∙ ap (put_in x) (part_front (facts_at lim) k (get_or w 4 0) w (omega arith)) in
       record {
         sturdy = after_sturdy lim k n x w ys s ek ly (omega (arith, p.high)) put;
-        stored = λ _. inl (after_view lim k n x w ys s ek ly (omega (arith, p.high)) put);
-        full = λ e. absurd (true_false e);
+        stored = inl (after_view lim k n x w ys s ek ly (omega (arith, p.high)) put);
       }
 
-  pub exit_full : lim.facts ≤ length (view_of lim w).facts → (r : Bool) → r ≡ is_some (look_in q (view_of lim w).facts) → PutFact lim q w r w
-  exit_full l r e = record { sturdy = s; stored = λ t. inr (refl, sym t ∙ e); full = λ f. (l, sym f ∙ e) }
+  pub exit_there : (r : Bool) → r ≡ is_some (look_in q (view_of lim w).facts) → r ≡ true → (done : Unit {0}) → PutFact lim q w (Ok done) w
+  exit_there r e t done = record { sturdy = s; stored = inr (refl, sym t ∙ e) }
+
+  pub exit_full : lim.facts ≤ length (view_of lim w).facts → (r : Bool) → r ≡ is_some (look_in q (view_of lim w).facts) → r ≡ false → (f : TooLarge) → PutFact lim q w (Err f) w
+  exit_full l r e t f = record { sturdy = s; stored = (l, sym t ∙ e) }
 
 -- ---- what that says of the model
 
@@ -161,12 +167,12 @@ insert_new f (x ∷ xs) e = go (fact_order f x) e (insert_new f xs)
     go Ordering.gt h r = ap suc (r h)
 
 module _ (lim : Limits) (d : Names) (w : List ℕ) (m : Model) (now : History) (c : Carries lim w m now) (fit : All (FitsFact (arity_of d)) m.facts) (f : Fact) (fits : FitsFact (arity_of d) f)
-    (q : ℕ) (is : q ≡ pack_key (fact_key f)) (r : Bool) (w' : List ℕ) (p : PutFact lim q w r w') where
+    (q : ℕ) (is : q ≡ pack_key (fact_key f)) (w' : List ℕ) where
   held_is : holds f m.facts ≡ is_some (look_in q (view_of lim w).facts)
   held_is = facts_hold_is (arity_of d) f m.facts fits fit ∙ sym (ap₂ (λ (k : ℕ) (l : List ℕ). is_some (look_in k l)) is c.facts)
 
-  pub fact_carried : r ≡ true → Carries lim w' (with_fact m f) now
-  fact_carried t = go (p.stored t)
+  pub fact_carried : (done : Unit {0}) → PutFact lim q w (Ok done) w' → Carries lim w' (with_fact m f) now
+  fact_carried done p = go p.stored
     where
       go : (view_of lim w' ≡ holding (q * 256) (view_of lim w)) ⊎ ((view_of lim w' ≡ view_of lim w) × (true ≡ is_some (look_in q (view_of lim w).facts))) → Carries lim w' (with_fact m f) now
       go (inl e) = unfold holding pack_entry in (
@@ -190,7 +196,7 @@ module _ (lim : Limits) (d : Names) (w : List ℕ) (m : Model) (now : History) (
             history = o.history;
           }
 
-  pub fact_crowds : r ≡ false → lim.facts < length (insert_fact f m.facts)
-  fact_crowds t =
-      let e = p.full t in
+  pub fact_crowds : (r : TooLarge) → PutFact lim q w (Err r) w' → lim.facts < length (insert_fact f m.facts)
+  fact_crowds r p =
+      let e = p.stored in
       omega (arith, e.0, ap length c.facts ∙ length-map m.facts pack_fact, insert_new f m.facts (e.1 ∙ sym held_is))

@@ -1,21 +1,19 @@
 -- What recording and telling a literal say: for whatever literal stands at the place and whatever child the form holds, the answer
 -- is the definition's.
-use Rattle.std.specs.Prelude.{◌≡◌, ℕ, ◌≤◌, Bool, true, false, List, map, length, take, T}
+use Rattle.std.specs.Prelude.{◌≡◌, ℕ, ◌≤◌, Bool, true, false, List, length, T, Result, Ok, Err}
 use Rattle.rules.specs.Book.{Literal}
 use Rattle.rules.specs.Reading.{Bytes}
-use Rattle.base.specs.Lists.{firsts}
 use Rattle.rules.specs.Sheet.{Model, domain, Limits}
 use Rattle.rules.specs.Look.{observed}
 use Rattle.rules.specs.Bound.{Bound, History, terms_of, admitted}
 use Rattle.rules.specs.Child.{Child, recorded, tell}
 use Rattle.soundness.specs.Book.{WfLiteral}
-use Rattle.packing.specs.Replace.{value_of}
-use Rattle.sheets.specs.Form.{view_of}
 use Rattle.texts.specs.Names.{names_in}
 use Rattle.texts.specs.Text.{LiteralText}
 use Rattle.enter.specs.Terms.{Setting, Told}
 use Rattle.telling.specs.declared.Judged.{Judged}
 use Rattle.telling.specs.declared.Judged.TheVariants.{Cut, Seen, New}
+use Rattle.telling.specs.declared.TooLarge.{TooLarge}
 use Rattle.telling.specs.Stays.{Digits}
 
 -- A child on its way that was never too big, in a form.
@@ -31,12 +29,12 @@ pub record LiteralAt (book text : Bytes) (at n : ℕ) (l : Literal) (e : ℕ) : 
 
 -- ---- recording
 
--- True: the form holds the child with the literal. False: that child is over its limits.
-pub record Records (book : Bytes) (lim : Limits) (env : List ℕ) (z : Setting book lim env) (k : Child) (r : Bool) (w' : List ℕ) : Type 0 where
-  pub done : r ≡ true → Held book lim env z w' k
-  pub over : r ≡ false → T k.over
+-- The form holds the child with the literal, or that child is over its limits.
+abbrev pub Records : (book : Bytes) (lim : Limits) (env : List ℕ) → Setting book lim env → Child → Result (Unit {0}) TooLarge → List ℕ → Type 0
+Records book lim env z k (Ok done) w' = Held book lim env z w' k
+Records book lim env z k (Err e) w' = T k.over
 
-abbrev pub IsRecorded : Bytes → Bytes → ℕ → Limits → List ℕ → List ℕ → Bool → List ℕ → Type 0
+abbrev pub IsRecorded : Bytes → Bytes → ℕ → Limits → List ℕ → List ℕ → Result (Unit {0}) TooLarge → List ℕ → Type 0
 IsRecorded book text at lim env w r w' = (z : Setting book lim env) (k : Child) → Held book lim env z w k → (l : Literal) (e : ℕ) → LiteralAt book text at (length z.ms) l e
     → Records book lim env z (recorded lim z.ms l k) r w'
 
@@ -45,11 +43,6 @@ IsRecorded book text at lim env w r w' = (z : Setting book lim env) (k : Child) 
 abbrev pub IsAllowed : Bytes → Bytes → ℕ → Bound → ℕ → Limits → List ℕ → List ℕ → List ℕ → Bool → Type 0
 IsAllowed book text at b size lim env w dom r = (z : Setting book lim env) (m : Model) (now : History) → Told book lim env z w m now → dom ≡ domain m
     → (l : Literal) (e : ℕ) → LiteralAt book text at (length z.ms) l e → r ≡ admitted b size (terms_of l) m now z.ms
-
--- The domain as it was listed from the keys of a form.
-pub record Listed (lim : Limits) (w dom : List ℕ) (nd : ℕ) : Type 0 where
-  pub is : take nd dom ≡ firsts (map value_of (view_of lim w).keys)
-  pub room : nd ≤ length dom
 
 -- ---- judging: skipped, seen already, or to be recorded
 
@@ -64,12 +57,11 @@ IsJudged book text at b lim env w r = (z : Setting book lim env) (k : Child) →
 
 -- ---- telling
 
--- What a child has become: over its limits, or in the form, with a literal skipped or not.
-pub record Goes (book : Bytes) (lim : Limits) (env : List ℕ) (z : Setting book lim env) (k : Child) (cut over : Bool) (w' : List ℕ) : Type 0 where
-  pub held : over ≡ false → Held book lim env z w' k
-  pub skipped : over ≡ false → cut ≡ k.cut
-  pub full : over ≡ true → T k.over
+-- What a child has become: in the form, with a literal skipped or not, or over its limits.
+abbrev pub Goes : (book : Bytes) (lim : Limits) (env : List ℕ) → Setting book lim env → Child → Result Bool TooLarge → List ℕ → Type 0
+Goes book lim env z k (Ok cut) w' = Held book lim env z w' k × (cut ≡ k.cut)
+Goes book lim env z k (Err e) w' = T k.over
 
-abbrev pub IsTold : Bytes → Bytes → ℕ → Bound → Limits → List ℕ → Bool → List ℕ → Bool → Bool → List ℕ → Type 0
-IsTold book text at b lim env before w cut over w' = (z : Setting book lim env) (k : Child) → Held book lim env z w k → before ≡ k.cut
-    → (l : Literal) (e : ℕ) → LiteralAt book text at (length z.ms) l e → Goes book lim env z (tell lim b z.ms l k) cut over w'
+abbrev pub IsTold : Bytes → Bytes → ℕ → Bound → Limits → List ℕ → Bool → List ℕ → Result Bool TooLarge → List ℕ → Type 0
+IsTold book text at b lim env before w r w' = (z : Setting book lim env) (k : Child) → Held book lim env z w k → before ≡ k.cut
+    → (l : Literal) (e : ℕ) → LiteralAt book text at (length z.ms) l e → Goes book lim env z (tell lim b z.ms l k) r w'

@@ -27,7 +27,7 @@ use Rattle.look.specs.Shown.{neat_facts_shown, fact_fits}
 use Rattle.look.specs.Digits.{start, top, pack_args, pack_args_lem}
 use Rattle.merge.specs.Merged.{MergedForm}
 use Rattle.sheets.specs.Form.{view_of}
-use Rattle.enter.specs.declared.Entered.TheVariants.{Full, At}
+use Rattle.std.specs.Prelude.{Some, None, Result, Ok, Err}
 use Rattle.enter.specs.Keep.{Carries, carries_small, Crowded}
 use Rattle.enter.specs.Grows.{enter_grows, crowded_grows, crowded_big, crowded_fact}
 use Rattle.enter.specs.Marks.{yielded_octet, fits_low}
@@ -37,6 +37,7 @@ use Rattle.telling.specs.Facts.{PutFact, fact_carried, fact_crowds}
 use Rattle.soundness.specs.Child.{fact_tidy}
 use Rattle.telling.specs.Stays.{small_fits, merged_carries, merged_digits}
 use Rattle.telling.specs.Literals.{Held, LiteralAt, Records, IsRecorded}
+use Rattle.telling.specs.declared.TooLarge.{TooLarge}
 
 pub true_false : {C : Type 0} → true ≡ false → C
 true_false e = absurd (subst T e tt)
@@ -94,17 +95,17 @@ module _ (book : Bytes) (lim : Limits) (env : List ℕ) (z : Setting book lim en
     abbrev right : Model × ℕ
     right = enter u left.0 k.now z.ms
 
-    pub side_full_2 : (w' : List ℕ) → Crowded lim right.0 → Records book lim env z (recorded lim z.ms (same t u) k) false w'
+    pub side_full_2 : (f : TooLarge) (w' : List ℕ) → Crowded lim right.0 → Records book lim env z (recorded lim z.ms (same t u) k) (Err f) w'
     unfolding recorded
-    side_full_2 w' c = record { done = λ e. true_false (sym e); over = λ _. or_r k.over (too_big lim right.0) (crowded_big lim right.0 c) }
+    side_full_2 f w' c = or_r k.over (too_big lim right.0) (crowded_big lim right.0 c)
 
-    pub side_full : (w' : List ℕ) → Crowded lim left.0 → Records book lim env z (recorded lim z.ms (same t u) k) false w'
-    side_full w' c = side_full_2 w' (crowded_grows lim left.0 right.0 (enter_grows u left.0 k.now z.ms) c)
+    pub side_full : (f : TooLarge) (w' : List ℕ) → Crowded lim left.0 → Records book lim env z (recorded lim z.ms (same t u) k) (Err f) w'
+    side_full f w' c = side_full_2 f w' (crowded_grows lim left.0 right.0 (enter_grows u left.0 k.now z.ms) c)
 
     pub side_merged : WfTerm t (names_in book) (length z.ms) → WfTerm u (names_in book) (length z.ms) → (x y : ℕ) (w₂ w₃ : List ℕ) → x ≡ left.1 → y ≡ right.1 → Carries lim w₂ right.0 k.now
-        → MergedForm lim x y w₂ w₃ → Records book lim env z (recorded lim z.ms (same t u) k) true w₃
+        → MergedForm lim x y w₂ w₃ → (done : Unit {0}) → Records book lim env z (recorded lim z.ms (same t u) k) (Ok done) w₃
     unfolding recorded
-    side_merged f g x y w₂ w₃ i j c r =
+    side_merged f g x y w₂ w₃ i j c r done =
         let d = names_in book in
         let B = Yielded z.base in
         let n = enter_entered d B k.now z.ms z.means t k.model f s.told.tidy in
@@ -113,41 +114,35 @@ module _ (book : Bytes) (lim : Limits) (env : List ℕ) (z : Setting book lim en
         let form : MergedForm lim left.1 right.1 w₂ w₃ = subst (λ v. MergedForm lim v right.1 w₂ w₃) i (subst (λ v. MergedForm lim x v w₂ w₃) j r) in
         let joined = merge_linked B left.1 right.1 right.0 k.now l.tidy.linked l.tidy.follows (l.stay left.1 n.yields.0) l.yields.0 in
         record {
-          done = λ _. record {
-            told = record {
-              tidy = record { listed = merge_listed d left.1 right.1 right.0 k.now l.tidy.listed; linked = joined.0; follows = joined.1 };
-              carries = merged_carries lim d w₂ w₃ right.0 k.now (told_holding told) s.digits left.1 right.1 form;
-            };
-            digits = merged_digits lim d w₂ w₃ right.0 k.now (told_holding told) s.digits left.1 right.1 form;
-            within = fits_still lim right.0 s.within (small_fits lim right.0 (carries_small c));
+          told = record {
+            tidy = record { listed = merge_listed d left.1 right.1 right.0 k.now l.tidy.listed; linked = joined.0; follows = joined.1 };
+            carries = merged_carries lim d w₂ w₃ right.0 k.now (told_holding told) s.digits left.1 right.1 form;
           };
-          over = λ e. true_false e;
+          digits = merged_digits lim d w₂ w₃ right.0 k.now (told_holding told) s.digits left.1 right.1 form;
+          within = fits_still lim right.0 s.within (small_fits lim right.0 (carries_small c));
         }
 
 -- ---- a fact
 
 module _ (book text : Bytes) (at : ℕ) (lim : Limits) (env w : List ℕ) where
-  pub literal_short : length text - at < 4 → (w' : List ℕ) → IsRecorded book text at lim env w false w'
-  literal_short h w' z k s l e a = absurd (omega (arith, literal_grows book text at (length z.ms) l e a))
+  pub literal_short : length text - at < 4 → (r : Result (Unit {0}) TooLarge) (w' : List ℕ) → IsRecorded book text at lim env w r w'
+  literal_short h r w' z k s l e a = absurd (omega (arith, literal_grows book text at (length z.ms) l e a))
 
   module _ (fact_here : num text at ≡ 0) (j n : ℕ) (is : num text (at + 2) ≡ j) (arity : n ≡ get_or (names_in book).relations j 0) where
     not_same : {C : Type 0} (m : ℕ) (t u : Term) (e : ℕ) → LiteralAt book text at m (same t u) e → C
     unfolding LiteralText
     not_same m t u e a = absurd (omega (arith, a.stands.0))
 
-    pub fact_full : (w' : List ℕ) → IsEnters book text (at + 4) n (start 0 j n) top lim env w Full w' → IsRecorded book text at lim env w false w'
+    pub fact_full : (f : TooLarge) (w' : List ℕ) → IsEnters book text (at + 4) n (start 0 j n) top lim env w None w' → IsRecorded book text at lim env w (Err f) w'
     unfolding recorded
-    fact_full w' g z k s (same t u) e a = not_same (length z.ms) t u e a
-    fact_full w' g z k s (fact r ts) e a =
+    fact_full f w' g z k s (same t u) e a = not_same (length z.ms) t u e a
+    fact_full f w' g z k s (fact r ts) e a =
         let p = fact_terms book text at j n is arity (length z.ms) r ts e a in
         let q = enters ts k.model k.now z.ms in
         let m = with_fact q.0 (rel r q.1) in
-        record {
-          done = λ t. true_false (sym t);
-          over = λ _. or_r k.over (too_big lim m) (crowded_big lim m (crowded_fact lim q.0 (rel r q.1) (g z k.model k.now s.told ts e p.1)));
-        }
+        or_r k.over (too_big lim m) (crowded_big lim m (crowded_fact lim q.0 (rel r q.1) (g z k.model k.now s.told ts e p.1)))
 
-    module _ (x b : ℕ) (w₁ : List ℕ) (g : IsEnters book text (at + 4) n (start 0 j n) top lim env w (At x b) w₁) where
+    module _ (x b : ℕ) (w₁ : List ℕ) (g : IsEnters book text (at + 4) n (start 0 j n) top lim env w (Some (x, b)) w₁) where
       -- What the entered terms give: the form that carries them, and the fact's number.
       module _ (z : Setting book lim env) (k : Child) (s : Held book lim env z w k) (r : ℕ) (ts : Terms) (e : ℕ) (a : LiteralAt book text at (length z.ms) (fact r ts) e) where
         abbrev q : Model × List ℕ
@@ -185,35 +180,37 @@ module _ (book text : Bytes) (at : ℕ) (lim : Limits) (env w : List ℕ) where
             (g z k.model k.now s.told ts e parts.1).1.0
             ∙ ap₂ (λ (y c : ℕ). pack_args (start 0 y c) top q.1) (sym parts.0) (sym (counted ∙ sym (counts_agree ts) ∙ parts.1.counted)) ∙ pack_args_lem 0 r q.1 fits.key.few
 
-      pub fact_large : 72057594037927936 ≤ x → (w' : List ℕ) → IsRecorded book text at lim env w false w'
-      fact_large l w' z k s (same t u) e a = not_same (length z.ms) t u e a
-      fact_large l w' z k s (fact r ts) e a = absurd (omega (arith, number z k s r ts e a, fits_low (fact_key (f z k s r ts e a)) (fits z k s r ts e a).key))
+        fit : All (FitsFact (arity_of (names_in book))) q.0.facts
+        fit = (neat_facts_shown (names_in book) z.small lim q.0 (told_holding terms_told).neat z.few (view_of lim w₁).facts terms_told.carries.facts).facts_fit
 
-      pub fact_put : (ok : Bool) (w₂ : List ℕ) → PutFact lim x w₁ ok w₂ → IsRecorded book text at lim env w ok w₂
-      unfolding recorded
-      fact_put ok w₂ p z k s (same t u) e a = not_same (length z.ms) t u e a
-      fact_put ok w₂ p z k s (fact r ts) e a =
-          let d = names_in book in
-          let u = terms_told z k s r ts e a in
-          let h = told_holding u in
-          let m = (q z k s r ts e a).0 in
-          let y = f z k s r ts e a in
-          let fit = (neat_facts_shown d z.small lim m h.neat z.few (view_of lim w₁).facts u.carries.facts).facts_fit in
-          let o = fits z k s r ts e a in
-          let i = number z k s r ts e a in
-          record {
-            done = λ t. (let c = fact_carried lim d w₁ m k.now u.carries fit y o x i ok w₂ p t in record {
+        -- The fact is in its place, or there is no room for it.
+        put_done : (done : Unit {0}) (w₂ : List ℕ) → PutFact lim x w₁ (Ok done) w₂ → Records book lim env z (recorded lim z.ms (fact r ts) k) (Ok done) w₂
+        unfolding recorded
+        put_done done w₂ p =
+            let c = fact_carried lim (names_in book) w₁ q.0 k.now terms_told.carries fit f fits x number w₂ done p in
+            record {
               told = record {
-                tidy = fact_tidy d (Yielded z.base) k.now m y u.tidy (yields z k s r ts e a) (unfold fact_declared in declared z k s r ts e a);
+                tidy = fact_tidy (names_in book) (Yielded z.base) k.now q.0 f terms_told.tidy yields (unfold fact_declared in declared);
                 carries = c;
               };
               digits = s.digits;
-              within = fits_still lim (with_fact m y) s.within (small_fits lim (with_fact m y) (carries_small c));
-            });
-            over = λ t. (let l = fact_crowds lim d w₁ m k.now u.carries fit y o x i ok w₂ p t in
-                or_r k.over (too_big lim (with_fact m y)) (unfold too_big in
-                or_r (ltb lim.elements m.created) _ (or_r (ltb lim.keys (length m.keys)) _ (lt→ltb lim.facts _ l))));
-          }
+              within = fits_still lim (with_fact q.0 f) s.within (small_fits lim (with_fact q.0 f) (carries_small c));
+            }
+
+        put_over : (g : TooLarge) (w₂ : List ℕ) → PutFact lim x w₁ (Err g) w₂ → Records book lim env z (recorded lim z.ms (fact r ts) k) (Err g) w₂
+        unfolding recorded
+        put_over g w₂ p =
+            let l = fact_crowds lim (names_in book) w₁ q.0 k.now terms_told.carries fit f fits x number w₂ g p in
+            or_r k.over (too_big lim (with_fact q.0 f)) (unfold too_big in or_r (ltb lim.elements q.0.created) _ (or_r (ltb lim.keys (length q.0.keys)) _ (lt→ltb lim.facts _ l)))
+
+      pub fact_large : 72057594037927936 ≤ x → (o : Result (Unit {0}) TooLarge) (w' : List ℕ) → IsRecorded book text at lim env w o w'
+      fact_large l o w' z k s (same t u) e a = not_same (length z.ms) t u e a
+      fact_large l o w' z k s (fact r ts) e a = absurd (omega (arith, number z k s r ts e a, fits_low (fact_key (f z k s r ts e a)) (fits z k s r ts e a).key))
+
+      pub fact_put : (o : Result (Unit {0}) TooLarge) (w₂ : List ℕ) → PutFact lim x w₁ o w₂ → IsRecorded book text at lim env w o w₂
+      fact_put o w₂ p z k s (same t u) e a = not_same (length z.ms) t u e a
+      fact_put (Ok done) w₂ p z k s (fact r ts) e a = put_done z k s r ts e a done w₂ p
+      fact_put (Err g) w₂ p z k s (fact r ts) e a = put_over z k s r ts e a g w₂ p
 
   -- ---- an identity
 
@@ -222,13 +219,13 @@ module _ (book text : Bytes) (at : ℕ) (lim : Limits) (env w : List ℕ) where
     unfolding LiteralText
     not_fact m r ts e a = absurd (no-fact a.stands.0)
 
-    pub same_full : (w' : List ℕ) → IsEnter book text (at + 2) lim env w Full w' → IsRecorded book text at lim env w false w'
-    same_full w' g z k s (fact r ts) e a = not_fact (length z.ms) r ts e a
-    same_full w' g z k s (same t u) e a =
+    pub same_full : (f : TooLarge) (w' : List ℕ) → IsEnter book text (at + 2) lim env w None w' → IsRecorded book text at lim env w (Err f) w'
+    same_full f w' g z k s (fact r ts) e a = not_fact (length z.ms) r ts e a
+    same_full f w' g z k s (same t u) e a =
         let p = same_sides book text at (length z.ms) t u e a in
-        side_full book lim env z w k s t u w' (g z k.model k.now s.told t p.0 p.1.0)
+        side_full book lim env z w k s t u f w' (g z k.model k.now s.told t p.0 p.1.0)
 
-    module _ (x b : ℕ) (w₁ : List ℕ) (g : IsEnter book text (at + 2) lim env w (At x b) w₁) where
+    module _ (x b : ℕ) (w₁ : List ℕ) (g : IsEnter book text (at + 2) lim env w (Some (x, b)) w₁) where
       module _ (z : Setting book lim env) (k : Child) (s : Held book lim env z w k) (t u : Term) (e : ℕ) (a : LiteralAt book text at (length z.ms) (same t u) e) where
         sides : (y : ℕ) × (TermAt book text (at + 2) (length z.ms) t y × TermAt book text y (length z.ms) u e)
         sides = same_sides book text at (length z.ms) t u e a
@@ -239,15 +236,16 @@ module _ (book text : Bytes) (at : ℕ) (lim : Limits) (env w : List ℕ) where
         second_at : TermAt book text b (length z.ms) u e
         second_at = subst (λ y. TermAt book text y (length z.ms) u e) (sym (g z k.model k.now s.told t sides.0 sides.1.0).0) sides.1.1
 
-      pub same_full_2 : (w' : List ℕ) → IsEnter book text b lim env w₁ Full w' → IsRecorded book text at lim env w false w'
-      same_full_2 w' h z k s (fact r ts) e a = not_fact (length z.ms) r ts e a
-      same_full_2 w' h z k s (same t u) e a =
-          side_full_2 book lim env z w k s t u w' (h z (enter t k.model k.now z.ms).0 k.now (first_told z k s t u e a) u e (second_at z k s t u e a))
+      pub same_full_2 : (f : TooLarge) (w' : List ℕ) → IsEnter book text b lim env w₁ None w' → IsRecorded book text at lim env w (Err f) w'
+      same_full_2 f w' h z k s (fact r ts) e a = not_fact (length z.ms) r ts e a
+      same_full_2 f w' h z k s (same t u) e a =
+          side_full_2 book lim env z w k s t u f w' (h z (enter t k.model k.now z.ms).0 k.now (first_told z k s t u e a) u e (second_at z k s t u e a))
 
-      pub same_merged : (y c : ℕ) (w₂ w₃ : List ℕ) → IsEnter book text b lim env w₁ (At y c) w₂ → MergedForm lim x y w₂ w₃ → IsRecorded book text at lim env w true w₃
-      same_merged y c w₂ w₃ h r z k s (fact i ts) e a = not_fact (length z.ms) i ts e a
-      same_merged y c w₂ w₃ h r z k s (same t u) e a =
+      pub same_merged : (y c : ℕ) (w₂ w₃ : List ℕ) → IsEnter book text b lim env w₁ (Some (y, c)) w₂ → MergedForm lim x y w₂ w₃ → (done : Unit {0})
+          → IsRecorded book text at lim env w (Ok done) w₃
+      same_merged y c w₂ w₃ h r done z k s (fact i ts) e a = not_fact (length z.ms) i ts e a
+      same_merged y c w₂ w₃ h r done z k s (same t u) e a =
           let v = sides z k s t u e a in
           let i = g z k.model k.now s.told t v.0 v.1.0 in
           let o = h z (enter t k.model k.now z.ms).0 k.now (first_told z k s t u e a) u e (second_at z k s t u e a) in
-          side_merged book lim env z w k s t u v.1.0.wf v.1.1.wf x y w₂ w₃ i.1.0 o.1.0 o.1.1 r
+          side_merged book lim env z w k s t u v.1.0.wf v.1.1.wf x y w₂ w₃ i.1.0 o.1.0 o.1.1 r done

@@ -8,10 +8,10 @@ ghost use Rattle.rules.specs.Reading.{num};
 pub fn byte(s: &[u8], at: usize) -> u64
     ensures { (result ≡ get_or s.now at 0) × (result < 256) }
 {
-    if at < s.len() { s[at] as u64 } else { 0 }
+    s.get(at).map_or(0, |b| u64::from(*b))
 }
 
-// The 16-bit number at a place.
+// The 16-bit number at a place. Behind the end nothing is added to the place, since the sum might not fit.
 pub fn num16(s: &[u8], at: usize) -> u64
     ensures { (result ≡ num s.now at) × (result < 65536) }
 {
@@ -37,5 +37,5 @@ pub fn num32(s: &[u8], at: usize) -> u64
 pub fn rest(s: &[u8], at: usize) -> usize
     ensures { (result ≡ length s.now - at) × (result ≤ length s.now) }
 {
-    if at < s.len() { s.len() - at } else { 0 }
+    s.len().saturating_sub(at)
 }

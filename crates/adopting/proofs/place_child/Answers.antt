@@ -1,6 +1,6 @@
 use borrow.Author.Rules.{rules}
 use lib.ListN.{length-set}
-use Rattle.sheets.specs.Form.{limits_of}
+use Rattle.limits.specs.Limits.{limits_of}
 use Rattle.adopting.specs.Slots.{numbered_formed, child_adopted}
 use Rattle.adopting.proofs.place_child.Goals as goal
 
@@ -9,8 +9,8 @@ bounds-w-1 c = simp length-set (search rules)
 
 pub put_sheet-requires : goal.put_sheet-requires
 put_sheet-requires c =
-    (numbered_formed (limits_of c.args.le c.args.lk c.args.lf) c.args.w.now _ c.args.place c.requires.0, c.requires.1)
+    (numbered_formed (limits_of c.args.limits) c.args.w.now _ c.args.place c.requires.0, c.requires.1)
 
 pub returns : goal.returns
 returns c =
-    child_adopted (limits_of c.args.le c.args.lk c.args.lf) c.args.i c.args.cut c.args.place _ c.args.w.now c.args.pool.now _ _ c.next_number.ensures.0 c.put_sheet.ensures c.join.ensures
+    child_adopted (limits_of c.args.limits) c.args.i c.args.cut c.args.place _ c.args.w.now c.args.pool.now _ _ c.next_number.ensures.0 c.put_sheet.ensures c.join.ensures

@@ -1,70 +1,69 @@
 -- 1 first; then head, sequent count, sequents, end.
-use Rattle.book.specs.Steps.{front_names, said, done}
-use Rattle.numbers.specs.Chains.{after_is, after_fault, after_ends, after_refused, on_true, on_false}
+use Rattle.std.proofs.Common.{lt-ltb, le-ltb, eq-eqb, ne_eqb, sym, ap, ◌∙◌}
+use Rattle.rules.specs.Reading.{giving, ended}
 use Rattle.texts.specs.Heads.{read_parts, sequents_from}
-use borrow.Author.Tests.{lt-ltb, le-ltb, eq-eqb, ne_eqb}
-use Rattle.rules.specs.Reading.{ended}
+use Rattle.refusals.specs.Numbers.{passed_on}
 use Rattle.numbers.specs.Answers.{checked}
-use mathlib.Core.Path.{sym, ap, ◌∙◌, refl}
+use Rattle.numbers.specs.Chains.{after_is, after_fault, after_ends, after_refused, on_true, on_false}
+use Rattle.book.specs.Steps.{front_names}
 use Rattle.book.proofs.check_book.Goals as goal
 
 pub returns-then-book-gt32768 : goal.returns-then-book-gt32768
+unfolding checked giving
 returns-then-book-gt32768 c =
-    sym (
+    rw c.refuse.ensures
+    (sym (
     ap checked (read_parts c.args.book.now)
-    ∙ on_true _ _ _ (lt-ltb _ _ c.if-book-gt32768.true)
-    ∙ said _ _ _ refl)
+    ∙ on_true _ _ _ (lt-ltb _ _ c.if-book-gt32768.true)))
+
+pub returns-in_err-c : goal.returns-in_err-c
+returns-in_err-c c =
+    rw (passed_on _ _ c.from_residual.ensures.1)
+    (sym (
+    ap checked (read_parts c.args.book.now)
+    ∙ on_false _ _ _ (le-ltb _ _ c.if-book-gt32768.false)
+    ∙ after_refused _ _ _ _ c.in_err-c.ensures))
+
+pub returns-in_err-k : goal.returns-in_err-k
+unfolding sequents_from
+returns-in_err-k c =
+    rw (passed_on _ _ c.from_residual-in_err-k.ensures.1)
+    (sym (
+    ap checked (read_parts c.args.book.now)
+    ∙ on_false _ _ _ (le-ltb _ _ c.if-book-gt32768.false)
+    ∙ front_names c.args.book.now _ c.in_ok-c.ensures
+    ∙ after_fault _ _ _ _ c.in_err-k.ensures.reads))
+
+pub returns-in_err-e : goal.returns-in_err-e
+unfolding sequents_from
+returns-in_err-e c =
+    rw (passed_on _ _ c.from_residual-in_err-e.ensures.1)
+    (sym (
+    ap checked (read_parts c.args.book.now)
+    ∙ on_false _ _ _ (le-ltb _ _ c.if-book-gt32768.false)
+    ∙ front_names c.args.book.now _ c.in_ok-c.ensures
+    ∙ after_is _ _ _ _ c.in_ok-k.ensures.reads
+    ∙ after_refused _ _ _ _ c.in_err-e.ensures))
 
 pub returns-then-e-book : goal.returns-then-e-book
-unfolding sequents_from ended
+unfolding sequents_from ended checked giving
 returns-then-e-book c =
-    let s = c.args.book.now in
-    sym (
-    ap checked (read_parts s)
+    rw c.refuse-then-e-book.ensures
+    (sym (
+    ap checked (read_parts c.args.book.now)
     ∙ on_false _ _ _ (le-ltb _ _ c.if-book-gt32768.false)
-    ∙ front_names s _ (sym c.in-Ends.is ∙ c.check_front.ensures)
-    ∙ after_is _ _ _ _ (sym c.in-Is.is ∙ c.read_ranged.ensures.0)
-    ∙ after_ends _ _ _ (sym c.in-Ends-check_sequents.is ∙ c.check_sequents.ensures)
-    ∙ on_false _ _ _ (ne_eqb _ _ c.if-e-book.true)
-    ∙ said _ _ _ refl)
+    ∙ front_names c.args.book.now _ c.in_ok-c.ensures
+    ∙ after_is _ _ _ _ c.in_ok-k.ensures.reads
+    ∙ after_ends _ _ _ c.in_ok-e.ensures
+    ∙ on_false _ _ _ (ne_eqb _ _ c.if-e-book.true)))
 
-pub returns-in-Refused : goal.returns-in-Refused
-returns-in-Refused c =
+pub returns : goal.returns
+unfolding sequents_from ended checked giving
+returns c =
     sym (
     ap checked (read_parts c.args.book.now)
     ∙ on_false _ _ _ (le-ltb _ _ c.if-book-gt32768.false)
-    ∙ after_refused _ _ _ _ (sym c.in-Refused.is ∙ c.check_front.ensures))
-
-pub returns-in-Fault : goal.returns-in-Fault
-unfolding sequents_from
-returns-in-Fault c =
-    let s = c.args.book.now in
-    sym (
-    ap checked (read_parts s)
-    ∙ on_false _ _ _ (le-ltb _ _ c.if-book-gt32768.false)
-    ∙ front_names s _ (sym c.in-Ends.is ∙ c.check_front.ensures)
-    ∙ after_fault _ _ _ _ (sym c.in-Fault.is ∙ c.read_ranged.ensures.0))
-
-pub returns-in-Refused-check_sequents : goal.returns-in-Refused-check_sequents
-unfolding sequents_from
-returns-in-Refused-check_sequents c =
-    let s = c.args.book.now in
-    sym (
-    ap checked (read_parts s)
-    ∙ on_false _ _ _ (le-ltb _ _ c.if-book-gt32768.false)
-    ∙ front_names s _ (sym c.in-Ends.is ∙ c.check_front.ensures)
-    ∙ after_is _ _ _ _ (sym c.in-Is.is ∙ c.read_ranged.ensures.0)
-    ∙ after_refused _ _ _ _ (sym c.in-Refused-check_sequents.is ∙ c.check_sequents.ensures))
-
-pub returns-else-e-book : goal.returns-else-e-book
-unfolding sequents_from ended
-returns-else-e-book c =
-    let s = c.args.book.now in
-    sym (
-    ap checked (read_parts s)
-    ∙ on_false _ _ _ (le-ltb _ _ c.if-book-gt32768.false)
-    ∙ front_names s _ (sym c.in-Ends.is ∙ c.check_front.ensures)
-    ∙ after_is _ _ _ _ (sym c.in-Is.is ∙ c.read_ranged.ensures.0)
-    ∙ after_ends _ _ _ (sym c.in-Ends-check_sequents.is ∙ c.check_sequents.ensures)
-    ∙ on_true _ _ _ (eq-eqb _ _ c.if-e-book.false)
-    ∙ done _ _ _ refl)
+    ∙ front_names c.args.book.now _ c.in_ok-c.ensures
+    ∙ after_is _ _ _ _ c.in_ok-k.ensures.reads
+    ∙ after_ends _ _ _ c.in_ok-e.ensures
+    ∙ on_true _ _ _ (eq-eqb _ _ c.if-e-book.false))

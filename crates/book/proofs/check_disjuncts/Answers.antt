@@ -1,22 +1,8 @@
--- What is left to read gives the answer of all.
+use Rattle.std.proofs.Common.{rules}
 use Rattle.rules.specs.Reading.{disjunct_at}
-use Rattle.numbers.specs.Loops.{left_all, left_next, left_refused, left_end}
 use Rattle.texts.specs.Names.{names_in}
-use native.Mathlib.Omega.{arith}
-use mathlib.Core.Path.{sym, ◌∙◌}
+use Rattle.numbers.specs.Rows.{row_reads}
 use Rattle.book.proofs.check_disjuncts.Goals as goal
 
-pub loop-i-init : goal.loop-i-init
-loop-i-init c = (omega arith, left_all c.args.count (disjunct_at (names_in c.args.book.now) c.args.v c.args.book.now) c.args.at)
-
-pub returns-in-Refused : goal.returns-in-Refused
-returns-in-Refused c =
-    sym (c.loop-i.invariant.1 ∙ left_refused c.args.count (disjunct_at (names_in c.args.book.now) c.args.v c.args.book.now) c.loop-i.i c.loop-i.p _ _ (omega arith) (sym c.in-Refused.is ∙ c.check_disjunct.ensures))
-
-pub loop-i-preserved : goal.loop-i-preserved
-loop-i-preserved c =
-    (omega arith, c.loop-i.invariant.1 ∙ left_next c.args.count (disjunct_at (names_in c.args.book.now) c.args.v c.args.book.now) c.loop-i.i c.loop-i.p _ (omega arith) (sym c.in-Ends.is ∙ c.check_disjunct.ensures))
-
 pub returns : goal.returns
-returns c =
-    sym (c.loop-i.invariant.1 ∙ left_end c.args.count (disjunct_at (names_in c.args.book.now) c.args.v c.args.book.now) c.loop-i.i c.loop-i.p (omega arith))
+returns c = row_reads (disjunct_at (names_in c.args.book.now) c.args.v c.args.book.now) (λ p r lt one. search rules) c.check_many.ensures

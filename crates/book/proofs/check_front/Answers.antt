@@ -1,26 +1,31 @@
 -- Mark, version, names.
-use Rattle.book.specs.Steps.{names_start}
-use Rattle.numbers.specs.Chains.{after_is, after_fault}
+use Rattle.std.proofs.Common.{sym, ◌∙◌}
 use Rattle.texts.specs.Heads.{front_at}
-use mathlib.Core.Path.{sym, ◌∙◌}
+use Rattle.refusals.specs.Numbers.{passed_on}
+use Rattle.numbers.specs.Chains.{after_is, after_fault}
+use Rattle.book.specs.Steps.{names_start}
 use Rattle.book.proofs.check_front.Goals as goal
 
-pub returns-in-Fault : goal.returns-in-Fault
+pub returns-in_err-a : goal.returns-in_err-a
 unfolding front_at
-returns-in-Fault c = sym (after_fault _ _ _ _ (sym c.in-Fault.is ∙ c.check_mark.ensures))
+returns-in_err-a c =
+    rw (passed_on _ _ c.from_residual.ensures.1)
+    (sym (
+    after_fault _ _ _ _ c.in_err-a.ensures))
 
-pub returns-in-Fault-read_version : goal.returns-in-Fault-read_version
+pub returns-in_err-read_version : goal.returns-in_err-read_version
 unfolding front_at
-returns-in-Fault-read_version c =
-    sym (
-    after_is _ _ _ _ (sym c.in-Is.is ∙ c.check_mark.ensures)
-    ∙ after_fault _ _ _ _ (sym c.in-Fault-read_version.is ∙ c.read_version.ensures))
+returns-in_err-read_version c =
+    rw (passed_on _ _ c.from_residual-in_err-read_version.ensures.1)
+    (sym (
+    after_is _ _ _ _ c.in_ok-a.ensures
+    ∙ after_fault _ _ _ _ c.in_err-read_version.ensures))
 
-pub returns-in-Is-read_version : goal.returns-in-Is-read_version
+pub returns : goal.returns
 unfolding front_at
-returns-in-Is-read_version c =
+returns c =
     sym (
-    after_is _ _ _ _ (sym c.in-Is.is ∙ c.check_mark.ensures)
-    ∙ after_is _ _ _ _ (sym c.in-Is-read_version.is ∙ c.read_version.ensures)
-    ∙ names_start c.args.book.now _ _ _ _ (sym c.in-Is.is ∙ c.check_mark.ensures) (sym c.in-Is-read_version.is ∙ c.read_version.ensures)
+    after_is _ _ _ _ c.in_ok-a.ensures
+    ∙ after_is _ _ _ _ c.in_ok-read_version.ensures
+    ∙ names_start c.args.book.now _ _ _ _ c.in_ok-a.ensures c.in_ok-read_version.ensures
     ∙ sym c.check_names.ensures)

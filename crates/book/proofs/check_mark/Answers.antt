@@ -1,31 +1,16 @@
 -- One byte after another.
-use Rattle.book.specs.Steps.{value_then_is, value_then_fault, told}
-use Rattle.rules.specs.Reading.{mark, mark_byte}
-use Rattle.numbers.specs.Answers.{value_is, value_fault}
-use mathlib.Core.Path.{sym, ◌∙◌, refl}
+use Rattle.rules.specs.Reading.{mark, and_then}
+use Rattle.refusals.specs.Numbers.{passed_on}
 use Rattle.book.proofs.check_mark.Goals as goal
 
-pub returns-in-Fault : goal.returns-in-Fault
-unfolding mark
-returns-in-Fault c =
-    sym (
-    value_then_fault _ _ _ _ (value_fault (mark_byte 82 c.args.book.now 0) _ _ (sym c.in-Fault.is ∙ c.read_mark.ensures))
-    ∙ told _ _ _ refl)
+pub returns-in_err-a : goal.returns-in_err-a
+unfolding mark and_then
+returns-in_err-a c = rw (passed_on _ _ c.from_residual.ensures.1, ← c.in_err-a.ensures)
 
-pub returns-in-Fault-read_mark : goal.returns-in-Fault-read_mark
-unfolding mark
-returns-in-Fault-read_mark c =
-    let s = c.args.book.now in
-    sym (
-    value_then_is _ _ _ _ (value_is (mark_byte 82 s 0) _ _ (sym c.in-Is.is ∙ c.read_mark.ensures))
-    ∙ value_then_fault _ _ _ _ (value_fault (mark_byte 85 s c.in-Is.a) _ _ (sym c.in-Fault-read_mark.is ∙ c.read_mark-in-Is.ensures))
-    ∙ told _ _ _ refl)
+pub returns-in_err-b : goal.returns-in_err-b
+unfolding mark and_then
+returns-in_err-b c = rw (passed_on _ _ c.from_residual-in_err-b.ensures.1, ← c.in_ok-a.ensures, ← c.in_err-b.ensures)
 
-pub returns-in-Is-read_mark : goal.returns-in-Is-read_mark
-unfolding mark
-returns-in-Is-read_mark c =
-    let s = c.args.book.now in
-    sym (
-    value_then_is _ _ _ _ (value_is (mark_byte 82 s 0) _ _ (sym c.in-Is.is ∙ c.read_mark.ensures))
-    ∙ value_then_is _ _ _ _ (value_is (mark_byte 85 s c.in-Is.a) _ _ (sym c.in-Is-read_mark.is ∙ c.read_mark-in-Is.ensures))
-    ∙ sym c.read_mark-in-Is-read_mark.ensures)
+pub returns : goal.returns
+unfolding mark and_then
+returns c = rw (c.read_mark-3.ensures, ← c.in_ok-a.ensures, ← c.in_ok-b.ensures)

@@ -1,37 +1,64 @@
--- Kind, witness number, then the arguments.
-use Rattle.book.specs.Steps.{arguments_at, said}
+-- Kind, witness number, argument count, which is the witness's, then the arguments.
+use Rattle.std.proofs.Common.{lt-ltb, le-ltb, eq-eqb, ne_eqb, sym, ap, ◌∙◌}
+use Rattle.rules.specs.Reading.{origin_at, declared, giving}
+use Rattle.refusals.specs.Numbers.{passed_on}
+use Rattle.numbers.specs.Answers.{checked, checked_giving}
 use Rattle.numbers.specs.Chains.{after_is, after_fault, on_true, on_false}
-use borrow.Author.Tests.{lt-ltb, le-ltb}
-use Rattle.rules.specs.Reading.{origin_at, declared}
-use Rattle.numbers.specs.Answers.{value}
-use mathlib.Core.Path.{sym, ap, ◌∙◌, refl}
 use Rattle.book.proofs.check_origin.Goals as goal
 
+pub returns-in_err-kind : goal.returns-in_err-kind
+unfolding origin_at
+returns-in_err-kind c =
+    rw (passed_on _ _ c.from_residual.ensures.1)
+    (sym (
+    after_fault _ _ _ _ c.in_err-kind.ensures))
+
 pub returns-then-kind-gt1 : goal.returns-then-kind-gt1
-unfolding origin_at
+unfolding origin_at checked giving
 returns-then-kind-gt1 c =
-    sym (
-    after_is _ _ _ _ (sym c.in-Is.is ∙ c.read_number.ensures)
-    ∙ on_true _ _ _ (lt-ltb _ _ c.if-kind-gt1.true)
-    ∙ said _ _ _ refl)
+    rw c.refuse.ensures
+    (sym (
+    after_is _ _ _ _ c.in_ok-kind.ensures
+    ∙ on_true _ _ _ (lt-ltb _ _ c.if-kind-gt1.true)))
 
-pub returns-in-Fault : goal.returns-in-Fault
+pub returns-in_err-w : goal.returns-in_err-w
 unfolding origin_at
-returns-in-Fault c = sym (after_fault _ _ _ _ (sym c.in-Fault.is ∙ c.read_number.ensures))
+returns-in_err-w c =
+    rw (passed_on _ _ c.from_residual-in_err-w.ensures.1)
+    (sym (
+    after_is _ _ _ _ c.in_ok-kind.ensures
+    ∙ on_false _ _ _ (le-ltb _ _ c.if-kind-gt1.false)
+    ∙ after_fault _ _ _ _ (c.in_err-w.ensures ∙ ap (λ k. declared k c.args.book.now c.in_ok-kind.a) c.witnesses_of.ensures.0)))
 
-pub returns-in-Fault-read_declared : goal.returns-in-Fault-read_declared
+pub returns-in_err-k : goal.returns-in_err-k
 unfolding origin_at
-returns-in-Fault-read_declared c =
-    sym (
-    after_is _ _ _ _ (sym c.in-Is.is ∙ c.read_number.ensures)
+returns-in_err-k c =
+    rw (passed_on _ _ c.from_residual-in_err-k.ensures.1)
+    (sym (
+    after_is _ _ _ _ c.in_ok-kind.ensures
     ∙ on_false _ _ _ (le-ltb _ _ c.if-kind-gt1.false)
-    ∙ after_fault _ _ _ _ (sym c.in-Fault-read_declared.is ∙ c.read_declared.ensures ∙ ap (λ k. value (declared k c.args.book.now c.in-Is.a)) c.witnesses_of.ensures.0))
+    ∙ after_is _ _ _ _ (c.in_ok-w.ensures ∙ ap (λ k. declared k c.args.book.now c.in_ok-kind.a) c.witnesses_of.ensures.0)
+    ∙ after_fault _ _ _ _ c.in_err-k.ensures))
 
-pub returns-in-Is-read_declared : goal.returns-in-Is-read_declared
-unfolding origin_at arguments_at
-returns-in-Is-read_declared c =
-    sym (
-    after_is _ _ _ _ (sym c.in-Is.is ∙ c.read_number.ensures)
+pub returns-then-k-arity_of : goal.returns-then-k-arity_of
+unfolding origin_at checked giving
+returns-then-k-arity_of c =
+    rw c.refuse-then-k-arity_of.ensures
+    (sym (
+    after_is _ _ _ _ c.in_ok-kind.ensures
     ∙ on_false _ _ _ (le-ltb _ _ c.if-kind-gt1.false)
-    ∙ after_is _ _ _ _ (sym c.in-Is-read_declared.is ∙ c.read_declared.ensures ∙ ap (λ k. value (declared k c.args.book.now c.in-Is.a)) c.witnesses_of.ensures.0)
-    ∙ sym c.check_arguments.ensures)
+    ∙ after_is _ _ _ _ (c.in_ok-w.ensures ∙ ap (λ k. declared k c.args.book.now c.in_ok-kind.a) c.witnesses_of.ensures.0)
+    ∙ after_is _ _ _ _ c.in_ok-k.ensures
+    ∙ on_false _ _ _ (ne_eqb _ _ (λ q. c.if-k-arity_of.true (q ∙ sym c.arity_of.ensures.0)))))
+
+pub returns : goal.returns
+unfolding origin_at
+returns c =
+    sym (
+    after_is _ _ _ _ c.in_ok-kind.ensures
+    ∙ on_false _ _ _ (le-ltb _ _ c.if-kind-gt1.false)
+    ∙ after_is _ _ _ _ (c.in_ok-w.ensures ∙ ap (λ k. declared k c.args.book.now c.in_ok-kind.a) c.witnesses_of.ensures.0)
+    ∙ after_is _ _ _ _ c.in_ok-k.ensures
+    ∙ on_true _ _ _ (eq-eqb _ _ (c.if-k-arity_of.false ∙ c.arity_of.ensures.0))
+    ∙ checked_giving _ _
+    ∙ sym c.check_variables.ensures)

@@ -1,51 +1,52 @@
 -- Free variables, body, head.
-use Rattle.numbers.specs.Chains.{after_is, after_fault, after_ends, after_refused}
+use Rattle.std.proofs.Common.{sym, ◌∙◌}
 use Rattle.rules.specs.Reading.{sequent_at}
+use Rattle.refusals.specs.Numbers.{passed_on}
 use Rattle.numbers.specs.Answers.{checked_giving}
-use mathlib.Core.Path.{sym, ◌∙◌}
-use borrow.Author.Rules.{rules}
+use Rattle.numbers.specs.Chains.{after_is, after_fault, after_ends, after_refused}
 use Rattle.book.proofs.check_sequent.Goals as goal
 
-pub check_disjuncts-requires : goal.check_disjuncts-requires
-check_disjuncts-requires c =
-    let h = rw c.in-Is.is at c.read_ranged.ensures.1 in
-    search rules
-
-pub returns-in-Fault : goal.returns-in-Fault
+pub returns-in_err-v : goal.returns-in_err-v
 unfolding sequent_at
-returns-in-Fault c = sym (after_fault _ _ _ _ (sym c.in-Fault.is ∙ c.read_ranged.ensures.0))
+returns-in_err-v c =
+    rw (passed_on _ _ c.from_residual.ensures.1)
+    (sym (
+    after_fault _ _ _ _ c.in_err-v.ensures.reads))
 
-pub returns-in-Fault-read_ranged : goal.returns-in-Fault-read_ranged
+pub returns-in_err-k : goal.returns-in_err-k
 unfolding sequent_at
-returns-in-Fault-read_ranged c =
+returns-in_err-k c =
+    rw (passed_on _ _ c.from_residual-in_err-k.ensures.1)
+    (sym (
+    after_is _ _ _ _ c.in_ok-v.ensures.reads
+    ∙ after_fault _ _ _ _ c.in_err-k.ensures.reads))
+
+pub returns-in_err-c : goal.returns-in_err-c
+unfolding sequent_at
+returns-in_err-c c =
+    rw (passed_on _ _ c.from_residual-in_err-c.ensures.1)
+    (sym (
+    after_is _ _ _ _ c.in_ok-v.ensures.reads
+    ∙ after_is _ _ _ _ c.in_ok-k.ensures.reads
+    ∙ after_refused _ _ _ _ c.in_err-c.ensures))
+
+pub returns-in_err-d : goal.returns-in_err-d
+unfolding sequent_at
+returns-in_err-d c =
+    rw (passed_on _ _ c.from_residual-in_err-d.ensures.1)
+    (sym (
+    after_is _ _ _ _ c.in_ok-v.ensures.reads
+    ∙ after_is _ _ _ _ c.in_ok-k.ensures.reads
+    ∙ after_ends _ _ _ c.in_ok-c.ensures
+    ∙ after_fault _ _ _ _ c.in_err-d.ensures.reads))
+
+pub returns : goal.returns
+unfolding sequent_at
+returns c =
     sym (
-    after_is _ _ _ _ (sym c.in-Is.is ∙ c.read_ranged.ensures.0)
-    ∙ after_fault _ _ _ _ (sym c.in-Fault-read_ranged.is ∙ c.read_ranged-in-Is.ensures.0))
-
-pub returns-in-Refused : goal.returns-in-Refused
-unfolding sequent_at
-returns-in-Refused c =
-    sym (
-    after_is _ _ _ _ (sym c.in-Is.is ∙ c.read_ranged.ensures.0)
-    ∙ after_is _ _ _ _ (sym c.in-Is-read_ranged.is ∙ c.read_ranged-in-Is.ensures.0)
-    ∙ after_refused _ _ _ _ (sym c.in-Refused.is ∙ c.check_literals.ensures))
-
-pub returns-in-Fault-read_ranged-2 : goal.returns-in-Fault-read_ranged-2
-unfolding sequent_at
-returns-in-Fault-read_ranged-2 c =
-    sym (
-    after_is _ _ _ _ (sym c.in-Is.is ∙ c.read_ranged.ensures.0)
-    ∙ after_is _ _ _ _ (sym c.in-Is-read_ranged.is ∙ c.read_ranged-in-Is.ensures.0)
-    ∙ after_ends _ _ _ (sym c.in-Ends.is ∙ c.check_literals.ensures)
-    ∙ after_fault _ _ _ _ (sym c.in-Fault-read_ranged-2.is ∙ c.read_ranged-in-Ends.ensures.0))
-
-pub returns-in-Is-read_ranged-2 : goal.returns-in-Is-read_ranged-2
-unfolding sequent_at
-returns-in-Is-read_ranged-2 c =
-    sym (
-    after_is _ _ _ _ (sym c.in-Is.is ∙ c.read_ranged.ensures.0)
-    ∙ after_is _ _ _ _ (sym c.in-Is-read_ranged.is ∙ c.read_ranged-in-Is.ensures.0)
-    ∙ after_ends _ _ _ (sym c.in-Ends.is ∙ c.check_literals.ensures)
-    ∙ after_is _ _ _ _ (sym c.in-Is-read_ranged-2.is ∙ c.read_ranged-in-Ends.ensures.0)
+    after_is _ _ _ _ c.in_ok-v.ensures.reads
+    ∙ after_is _ _ _ _ c.in_ok-k.ensures.reads
+    ∙ after_ends _ _ _ c.in_ok-c.ensures
+    ∙ after_is _ _ _ _ c.in_ok-d.ensures.reads
     ∙ checked_giving _ _
     ∙ sym c.check_disjuncts.ensures)

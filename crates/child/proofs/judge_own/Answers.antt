@@ -1,22 +1,24 @@
-use native.Mathlib.Omega.{arith}
-use Rattle.sheets.specs.Form.{limits_of}
-use lib.ListN.{take}
-use Rattle.rules.specs.Calls.{bound_of}
+use mathlib.Core.Path.{sym}
+use Rattle.limits.specs.Limits.{limits_of}
+use Rattle.bound.specs.Bounds.{bound_is}
 use Rattle.child.specs.Own.{judged_seen, judged_new, judged_cut, judged_cut_2}
+use Rattle.child.proofs.judge_own.Goals.{else-admits-via-then-admits+else-admits-2, else-admits-via-else-admits}
 use Rattle.child.proofs.judge_own.Goals as goal
 
-pub returns-then-x-lt256 : goal.returns-then-x-lt256
-returns-then-x-lt256 c =
-    judged_seen (bound_of c.args.kind c.args.number) (limits_of c.args.le c.args.lk c.args.lf) (take c.args.ne c.args.env.now) c.args.v c.args.w.now _ _ c.list_here-nd.ensures _ c.variable_here-x.ensures c.if-x-lt256.true
+pub tables_of-t-requires : goal.tables_of-t-requires
+tables_of-t-requires c =
+    let s = c.requires.1 in
+    (record { formed = s.formed; keys_rise = s.rising; facts_rise = s.held }, c.requires.0)
+
+pub returns-then-is_some : goal.returns-then-is_some
+returns-then-is_some c = judged_seen (bound_is c.args.b) (limits_of c.args.limits) c.args.env.now c.args.v c.args.w.now _ _ _ c.tables_of-t.ensures _ c.look_variable.ensures.0 (sym c.if-is_some.ensures)
 
 pub returns-then-admits-2 : goal.returns-then-admits-2
-returns-then-admits-2 c =
-    judged_new (bound_of c.args.kind c.args.number) (limits_of c.args.le c.args.lk c.args.lf) (take c.args.ne c.args.env.now) c.args.v c.args.w.now _ _ c.list_here-nd.ensures _ c.variable_here-x.ensures (omega arith) _ c.depth_variable-d.ensures.1 _ _ c.admits.ensures c.if-admits.true c.admits-then-admits.ensures c.if-admits-2.true
-
-pub returns-then-admits : goal.returns-then-admits
-returns-then-admits c =
-    judged_cut_2 (bound_of c.args.kind c.args.number) (limits_of c.args.le c.args.lk c.args.lf) (take c.args.ne c.args.env.now) c.args.v c.args.w.now _ _ c.list_here-nd.ensures _ c.variable_here-x.ensures (omega arith) _ c.depth_variable-d.ensures.1 _ _ c.admits.ensures c.if-admits.true c.admits-then-admits.ensures c.if-admits-2.false
+returns-then-admits-2 c = judged_new (bound_is c.args.b) (limits_of c.args.limits) c.args.env.now c.args.v c.args.w.now _ _ _ c.tables_of-t.ensures _ c.look_variable.ensures.0 (sym c.if-is_some.ensures) _ c.depth_variable-d.ensures.1 _ _ c.admits.ensures c.if-admits.true c.admits-then-admits.ensures c.if-admits-2.true
 
 pub returns : goal.returns
 returns c =
-    judged_cut (bound_of c.args.kind c.args.number) (limits_of c.args.le c.args.lk c.args.lf) (take c.args.ne c.args.env.now) c.args.v c.args.w.now _ _ c.list_here-nd.ensures _ c.variable_here-x.ensures (omega arith) _ c.depth_variable-d.ensures.1 _ c.admits.ensures c.if-admits.false
+    elim c.else-admits.branch [
+      | else-admits-via-then-admits+else-admits-2 w ↦ judged_cut_2 (bound_is c.args.b) (limits_of c.args.limits) c.args.env.now c.args.v c.args.w.now _ _ _ c.tables_of-t.ensures _ c.look_variable.ensures.0 (sym c.if-is_some.ensures) _ c.depth_variable-d.ensures.1 _ _ c.admits.ensures w.if-admits.true w.admits-then-admits.ensures w.if-admits-2.false
+      | else-admits-via-else-admits w ↦ judged_cut (bound_is c.args.b) (limits_of c.args.limits) c.args.env.now c.args.v c.args.w.now _ _ _ c.tables_of-t.ensures _ c.look_variable.ensures.0 (sym c.if-is_some.ensures) _ c.depth_variable-d.ensures.1 _ c.admits.ensures w.if-admits.false
+    ]

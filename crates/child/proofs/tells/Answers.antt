@@ -1,28 +1,32 @@
 use native.Mathlib.Omega.{arith}
-use mathlib.Core.Path.{refl}
-use Rattle.sheets.specs.Form.{limits_of}
+use mathlib.Core.Path.{refl, ◌∙◌}
 use mathlib.Core.Bool.{false}
-use lib.ListN.{take}
-use Rattle.rules.specs.Calls.{bound_of}
+use Rattle.limits.specs.Limits.{limits_of}
+use Rattle.bound.specs.Bounds.{bound_is}
+use Rattle.refusals.specs.Numbers.{passed_on}
 use Rattle.child.specs.Tells.{left_start, left_end, left_over, left_next}
 use Rattle.child.proofs.tells.Goals as goal
 
-pub loop-i-init : goal.loop-i-init
-loop-i-init c =
-    (omega arith, (omega arith, (refl, (refl, (c.requires.1.1.1.1, left_start c.args.book.now c.args.text.now c.args.at c.args.n (bound_of c.args.kind c.args.number) (limits_of c.args.le c.args.lk c.args.lf) (take c.args.ne c.args.env.now) false c.args.w.now)))))
+pub loop-init : goal.loop-init
+loop-init c = record { within = c.requires.0; dom_length = refl; sturdy = c.requires.1.1.1; left = left_start c.args.book.now c.args.text.now c.args.at c.args.n (bound_is c.args.b) (limits_of c.args.limits) c.args.env.now false c.args.w.now }
 
-pub tell-g-requires : goal.tell-g-requires
-tell-g-requires c =
-    (c.loop-i.invariant.1.0, (c.requires.1.1.0, (omega arith, c.loop-i.invariant.1.1.1.1.0)))
+pub tell-requires : goal.tell-requires
+tell-requires c = (c.loop.invariant.within, (omega (arith, c.loop.invariant.dom_length, c.requires.1.1.0), c.loop.invariant.sturdy))
 
-pub returns-then-g : goal.returns-then-g
-returns-then-g c =
-    record { sturdy = c.tell-g.ensures.sturdy; tells = left_over c.args.book.now c.args.text.now c.args.at c.args.n (bound_of c.args.kind c.args.number) (limits_of c.args.le c.args.lk c.args.lf) (take c.args.ne c.args.env.now) false c.args.w.now c.loop-i.i c.loop-i.p c.loop-i.cut _ c.loop-i.invariant.1.1.1.1.1 (omega arith) _ _ _ c.tell-g.ensures.told c.if-g.true }
+pub returns-in_err-cut : goal.returns-in_err-cut
+returns-in_err-cut c = record {
+  sturdy = c.in_err-cut.ensures.sturdy;
+  tells = rw (passed_on _ _ c.from_residual.ensures.1) (left_over c.args.book.now c.args.text.now c.args.at c.args.n (bound_is c.args.b) (limits_of c.args.limits) c.args.env.now false c.args.w.now c.loop.counter c.loop.p c.loop.cut _ c.loop.invariant.left (omega arith)
+      c.in_err-cut.field-0.0 c.tell.new.w c.in_err-cut.ensures.told);
+}
 
-pub loop-i-preserved : goal.loop-i-preserved
-loop-i-preserved c =
-    (omega arith, (c.skip_literal-p.ensures.0.1, (omega arith, (omega arith, (c.tell-g.ensures.sturdy, left_next c.args.book.now c.args.text.now c.args.at c.args.n (bound_of c.args.kind c.args.number) (limits_of c.args.le c.args.lk c.args.lf) (take c.args.ne c.args.env.now) false c.args.w.now c.loop-i.i c.loop-i.p c.loop-i.cut _ c.loop-i.invariant.1.1.1.1.1 (omega arith) _ _ _ c.tell-g.ensures.told c.if-g.false _ c.skip_literal-p.ensures.1)))))
+pub loop-preserved : goal.loop-preserved
+loop-preserved c = record {
+  within = c.skip_literal-p.ensures.0.1;
+  dom_length = c.tell.auto.dom ∙ c.loop.invariant.dom_length;
+  sturdy = c.in_ok-cut.ensures.sturdy;
+  left = left_next c.args.book.now c.args.text.now c.args.at c.args.n (bound_is c.args.b) (limits_of c.args.limits) c.args.env.now false c.args.w.now c.loop.counter c.loop.p c.loop.cut _ c.loop.invariant.left (omega arith) _ _ c.in_ok-cut.ensures.told _ c.skip_literal-p.ensures.1;
+}
 
 pub returns : goal.returns
-returns c =
-    record { sturdy = c.loop-i.invariant.1.1.1.1.0; tells = left_end c.args.book.now c.args.text.now c.args.at c.args.n (bound_of c.args.kind c.args.number) (limits_of c.args.le c.args.lk c.args.lf) (take c.args.ne c.args.env.now) false c.args.w.now c.loop-i.i c.loop-i.p c.loop-i.cut _ c.loop-i.invariant.1.1.1.1.1 (omega arith) }
+returns c = record { sturdy = c.loop.invariant.sturdy; tells = left_end c.args.book.now c.args.text.now c.args.at c.args.n (bound_is c.args.b) (limits_of c.args.limits) c.args.env.now false c.args.w.now c.loop.counter c.loop.p c.loop.cut _ c.loop.invariant.left (omega arith) }

@@ -1,38 +1,21 @@
 -- The numbers listed so far are the first appearances among the values passed.
 use native.Mathlib.Omega.{arith}
-use mathlib.Core.Path.{◌≡◌, refl, sym, ◌∙◌}
-use lib.ListN.{length-set}
+use mathlib.Core.Path.{refl, sym, ◌∙◌}
 use Rattle.domains.specs.Firsts.{listed_none, listed_old, listed_new}
+use Rattle.domains.proofs.list_domain.Goals.{then-not-known, else-not-known}
 use Rattle.domains.proofs.list_domain.Goals as goal
 
-pub loop-i-init : goal.loop-i-init
-loop-i-init c = (omega arith, (omega arith, (refl, listed_none c.args.keys.now c.args.dom.now)))
+pub loop-x-init : goal.loop-x-init
+loop-x-init c = record { below = omega arith; as_long = refl; listed = listed_none c.args.keys.now c.args.dom.now }
 
-pub loop-i-preserved-then-known : goal.loop-i-preserved-then-known
-loop-i-preserved-then-known c = (
-  omega arith,
-  (
-    omega arith,
-    (
-      c.loop-i.invariant.1.1.0,
-      listed_old c.args.keys.now c.loop-i.i c.loop-i.dom c.loop-i.nd (omega arith) c.loop-i.invariant.1.1.1 (sym c.if-known.true ∙ c.known.ensures),
-    ),
-  ),
-)
-
-pub loop-i-preserved : goal.loop-i-preserved
-loop-i-preserved c = (
-  omega arith,
-  (
-    omega arith,
-    (
-      length-set c.loop-i.dom c.loop-i.nd _ ∙ c.loop-i.invariant.1.1.0,
-      listed_new c.args.keys.now c.loop-i.i c.loop-i.dom c.loop-i.nd (omega arith) c.loop-i.invariant.1.1.1 (omega arith) (sym c.if-known.false ∙ c.known.ensures),
-    ),
-  ),
-)
-
-pub returns : goal.returns
-returns c =
-    let e : c.loop-i.i ≡ c.args.nk = omega arith in
-    (rw (← e) c.loop-i.invariant.1.1.1, omega arith)
+pub loop-x-preserved : goal.loop-x-preserved
+loop-x-preserved c =
+    let i = c.loop-x.invariant in
+    elim c.if-not-known.branch [
+      | then-not-known w ↦
+          let l = listed_new c.args.keys.now c.loop-x.x-index c.loop-x.dom c.loop-x.nd (omega arith) i.listed (omega arith) (sym w.if-not-known.true ∙ c.known.ensures) in
+          record { below = omega arith; as_long = omega arith; listed = rw (w.dom-is, w.nd-is) l }
+      | else-not-known w ↦
+          let l = listed_old c.args.keys.now c.loop-x.x-index c.loop-x.dom c.loop-x.nd (omega arith) i.listed (sym w.if-not-known.false ∙ c.known.ensures) in
+          record { below = omega arith; as_long = omega arith; listed = rw (w.dom-is, w.nd-is) l }
+    ]

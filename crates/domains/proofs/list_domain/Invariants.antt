@@ -1,11 +1,12 @@
-use Prim.Native.Nat.{◌≤◌, ◌-◌}
+use Prim.Native.Nat.{◌≤◌}
 use mathlib.Core.Path.{◌≡◌}
 use lib.ListN.{length}
 use Rattle.domains.specs.Firsts.{Listed}
 use Rattle.domains.proofs.list_domain.Given as goal
 
-abbrev pub invariant-loop-i : goal.invariant-loop-i
-invariant-loop-i l = (l.i ≤ l.nk) × ((l.nd ≤ l.i) × ((length l.dom ≡ length l.initial.dom) × Listed l.keys l.i l.dom l.nd))
-
-abbrev pub decreases-loop-i : goal.decreases-loop-i
-decreases-loop-i l = l.nk - l.i
+abbrev pub invariant-loop-x : goal.invariant-loop-x
+invariant-loop-x l = record {
+  below : l.nd ≤ l.x-index;
+  as_long : length l.dom ≡ length l.initial.dom;
+  listed : Listed l.keys l.x-index l.dom l.nd;
+}

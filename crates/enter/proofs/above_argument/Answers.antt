@@ -1,4 +1,5 @@
-use Rattle.sheets.specs.Form.{limits_of, view_of}
+use Rattle.limits.specs.Limits.{limits_of}
+use Rattle.sheets.specs.Form.{view_of}
 use borrow.Author.Tests.{lt-ltb, le-ltb}
 use mathlib.Core.Path.{ap, ◌∙◌}
 use lib.ListN.{get_or}
@@ -11,7 +12,7 @@ unfolding above if
 returns-then-i-count c =
     let q = rw c.count.ensures.0 at c.if-i-count.true in
     c.one_more.ensures ∙ (rw (lt-ltb _ _ q) (ap one_more (c.depth_at.ensures
-    ∙ ap (λ j. get_or (view_of (limits_of c.args.le c.args.lk c.args.lf) c.args.w.now).depths j 0) c.argument.ensures.0)))
+    ∙ ap (λ j. get_or (view_of (limits_of c.args.limits) c.args.w.now).depths j 0) c.argument.ensures.0)))
 
 pub returns : goal.returns
 unfolding above if

@@ -8,9 +8,9 @@ use Rattle.enter.proofs.depth_at.Goals as goal
 pub returns-then-e-w : goal.returns-then-e-w
 unfolding view_of
 returns-then-e-w c =
-    part_out (6 + c.args.lk + c.args.lk + c.args.lf) _ c.args.w.now c.args.e c.if-e-w.true
+    part_out (6 + c.args.limits.keys + c.args.limits.keys + c.args.limits.facts) _ c.args.w.now c.args.e c.if-e-w.true
 
 pub returns : goal.returns
 unfolding view_of
 returns c =
-    sym (part_at (6 + c.args.lk + c.args.lk + c.args.lf) _ c.args.w.now c.args.e (omega arith))
+    sym (part_at (6 + c.args.limits.keys + c.args.limits.keys + c.args.limits.facts) _ c.args.w.now c.args.e (omega arith))

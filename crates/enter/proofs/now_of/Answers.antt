@@ -5,12 +5,12 @@ use Rattle.sheets.specs.Form.{view_of}
 use Rattle.images.specs.Kept.{part_at, part_out}
 use Rattle.enter.proofs.now_of.Goals as goal
 
-pub returns-then-e-le : goal.returns-then-e-le
+pub returns-then-e-limits : goal.returns-then-e-limits
 unfolding view_of
-returns-then-e-le c =
-    (ap (λ n. n % 256) (part_out (6 + c.args.lk + c.args.lk + c.args.lf + c.args.le) _ c.args.w.now c.args.e c.if-e-le.true), omega arith)
+returns-then-e-limits c =
+    (ap (λ n. n % 256) (part_out (6 + c.args.limits.keys + c.args.limits.keys + c.args.limits.facts + c.args.limits.elements) _ c.args.w.now c.args.e c.if-e-limits.true), omega arith)
 
 pub returns : goal.returns
 unfolding view_of
 returns c =
-    (ap (λ n. n % 256) (sym (part_at (6 + c.args.lk + c.args.lk + c.args.lf + c.args.le) _ c.args.w.now c.args.e (omega arith))), omega arith)
+    (ap (λ n. n % 256) (sym (part_at (6 + c.args.limits.keys + c.args.limits.keys + c.args.limits.facts + c.args.limits.elements) _ c.args.w.now c.args.e (omega arith))), omega arith)

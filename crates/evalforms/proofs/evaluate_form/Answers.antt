@@ -1,28 +1,23 @@
-use native.Mathlib.Omega.{arith}
-use borrow.Author.Rules.{rules}
+-- The tables of the form are those of the sheet that it holds.
 use mathlib.Core.Path.{sym, subst}
-use Prim.Native.Nat.{◌+◌, ◌-◌, ◌≤◌}
+use Prim.Native.Nat.{◌≤◌}
 use Rattle.rules.specs.Reading.{num}
 use Rattle.texts.specs.Names.{count_at}
-use Rattle.sheets.specs.Form.{limits_of}
-use Rattle.evalforms.specs.Basis.{place_is, tables_ready, evaluated}
+use Rattle.limits.specs.Limits.{limits_of}
+use Rattle.showing.specs.Tables.{listed_octets}
+use Rattle.evalforms.specs.Basis.{place_is, form_orderly, evaluated}
 use Rattle.evalforms.proofs.evaluate_form.Goals as goal
+
+pub tables_of-t-requires : goal.tables_of-t-requires
+tables_of-t-requires c =
+    let b = c.requires.0 in
+    (form_orderly c.args.book.now (limits_of c.args.limits) c.args.base.now b.sheet b.holds b.small b.neat b.few, c.requires.1.1)
 
 pub evaluate-requires : goal.evaluate-requires
 evaluate-requires c =
-    let lim = limits_of c.args.le c.args.lk c.args.lf in (
-      c.requires.0.short,
-      (
-        subst (λ k. k ≤ num c.args.book.now (count_at c.args.book.now)) (sym (place_is lim c.args.base.now c.requires.0.sheet c.requires.0.holds)) c.requires.0.low,
-        (
-          c.requires.1.0,
-          tables_ready c.args.book.now lim c.args.base.now _ c.list_domain-nd.result (5 + c.args.lk - 5) (6 + c.args.lk + c.args.lk + c.args.lf - (6 + c.args.lk + c.args.lk)) (omega arith) (omega arith) c.list_domain-nd.ensures.0
-              c.requires.0.sheet c.requires.0.holds c.requires.0.small c.requires.0.neat c.requires.0.few (search rules),
-        ),
-      ),
-    )
+    let b = c.requires.0 in
+    record { fits = (b.short, (subst (λ k. k ≤ num c.args.book.now (count_at c.args.book.now)) (sym (place_is (limits_of c.args.limits) c.args.base.now b.sheet b.holds)) b.low, c.requires.1.0)); octets = listed_octets _ _ c.tables_of-t.ensures.domain_is }
 
 pub returns : goal.returns
 returns c =
-    evaluated c.args.book.now (limits_of c.args.le c.args.lk c.args.lf) c.args.base.now _ c.list_domain-nd.result (5 + c.args.lk - 5) (6 + c.args.lk + c.args.lk + c.args.lf - (6 + c.args.lk + c.args.lk)) (omega arith) (omega arith) c.list_domain-nd.ensures.0
-    c.args.strategy c.evaluate.result c.evaluate.new.env c.evaluate.ensures
+    evaluated c.args.book.now (limits_of c.args.limits) c.args.base.now _ _ _ c.tables_of-t.ensures _ c.evaluate.result c.evaluate.new.env c.evaluate.ensures

@@ -10,4 +10,4 @@ lone_sound-requires c = search rules
 
 pub evaluate_sheet-requires : goal.evaluate_sheet-requires
 evaluate_sheet-requires c =
-    (lone c.args.book.now c.args.slot.now c.requires.0 (λ i. (c.type_inv.slot i).fits) _ c.lone_sound.ensures c.if-lone_sound.true, c.requires.1)
+    lone c.args.book.now c.args.slot.now c.requires c.fits-slot _ c.lone_sound.ensures c.if-lone_sound.true

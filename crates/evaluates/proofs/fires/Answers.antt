@@ -5,8 +5,8 @@ use Rattle.evaluates.proofs.fires.Goals as goal
 
 pub evaluate_form-requires : goal.evaluate_form-requires
 evaluate_form-requires c =
-    (basis c.args.book.now c.args.slot.now c.requires.0 _ c.load_sheet.ensures, (c.requires.1.1, omega arith))
+    (basis c.args.book.now c.args.slot.now c.requires _ c.load_sheet.ensures, (omega arith, omega arith))
 
 pub returns : goal.returns
 returns c =
-    fires_on c.args.book.now c.args.slot.now c.requires.0 _ c.load_sheet.ensures c.args.strategy c.evaluate_form.result c.evaluate_form.new.env c.evaluate_form.ensures
+    fires_on c.args.book.now c.args.slot.now c.requires _ c.load_sheet.ensures _ c.evaluate_form.result c.evaluate_form.new.env c.evaluate_form.ensures

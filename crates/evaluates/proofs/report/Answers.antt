@@ -1,10 +1,9 @@
 -- The book is read, in front of the sheet's check.
-use mathlib.Core.Path.{sym, ◌∙◌}
 use Rattle.numbers.specs.Answers.{checked_ends}
 use Rattle.texts.specs.Heads.{read_as}
 use Rattle.evaluates.proofs.report.Goals as goal
 
 pub check_sheet-requires : goal.check_sheet-requires
 check_sheet-requires c =
-    let d = checked_ends _ _ (sym c.in-Ends.is ∙ c.check_book.ensures) in
-    (read_as _ _ _ d.read, c.requires)
+    let d = checked_ends _ _ c.in-Ok-check_book.ensures in
+    read_as _ _ _ d.read

@@ -1,11 +1,12 @@
-use native.Mathlib.Omega.{arith}
+-- Of two values for one key the pair is kept.
+use Rattle.std.proofs.Common.{arith}
 use Rattle.filing.specs.File.{filed_new, filed_pair}
 use Rattle.filing.proofs.file.Goals as goal
 
-pub returns-then-v-lt256 : goal.returns-then-v-lt256
-returns-then-v-lt256 c =
-    filed_pair c.args.x c.args.n c.args.top _ _ c.args.t.now _ c.put_last-count.ensures (omega arith) c.requires.0 c.requires.1.0 c.requires.1.1.0 c.look_last-v.ensures.0 c.if-v-lt256.true
+pub returns-in-Some : goal.returns-in-Some
+returns-in-Some c =
+    filed_pair c.args.x c.args.ends.count c.args.ends.top _ c.args.t.now _ c.put_last-count.ensures (omega arith) c.requires.0 c.requires.1.0 c.requires.1.1.0 c.in-Some.v c.in-Some.ensures.0
 
-pub returns : goal.returns
-returns c =
-    filed_new c.args.x c.args.n c.args.top _ _ c.args.t.now _ c.put_last-count.ensures (omega arith) c.requires.0 c.requires.1.0 c.requires.1.1.0 c.look_last-v.ensures.0 c.if-v-lt256.false
+pub returns-in_default : goal.returns-in_default
+returns-in_default c =
+    filed_new c.args.x c.args.ends.count c.args.ends.top _ c.args.t.now _ c.put_last-count.ensures (omega arith) c.requires.0 c.requires.1.0 c.requires.1.1.0 c.in_default.ensures

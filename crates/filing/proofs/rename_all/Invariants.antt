@@ -1,12 +1,6 @@
-use Prim.Native.Nat.{◌≤◌, ◌-◌}
-use mathlib.Core.Path.{◌≡◌}
-use lib.ListN.{length}
+use Rattle.std.proofs.Common.{◌≡◌, ◌++◌, map, take, drop}
 use Rattle.packing.specs.Replace.{replaced}
-use Rattle.filing.specs.Front.{map_front}
 use Rattle.filing.proofs.rename_all.Given as goal
 
-abbrev pub invariant-loop-i : goal.invariant-loop-i
-invariant-loop-i l = (l.i ≤ l.n) × ((length l.t ≡ length l.initial.t) × (l.t ≡ map_front (replaced l.s l.l) l.i l.initial.t))
-
-abbrev pub decreases-loop-i : goal.decreases-loop-i
-decreases-loop-i l = l.n - l.i
+abbrev pub invariant-loop-x : goal.invariant-loop-x
+invariant-loop-x l = l.t ≡ map (replaced l.s l.l) (take l.x-index l.initial.t) ++ drop l.x-index l.initial.t

@@ -1,4 +1,3 @@
-use Prim.Native.Nat.{◌≤◌, ◌-◌}
 use mathlib.Core.Path.{◌≡◌}
 use lib.ListN.{length, take}
 use Rattle.skips.specs.Rest.{Within}
@@ -6,7 +5,9 @@ use Rattle.firing.specs.Origins.{Makes}
 use Rattle.firing.proofs.make_env.Given as goal
 
 abbrev pub invariant-loop-i : goal.invariant-loop-i
-invariant-loop-i l = (l.i ≤ l.k) × (Within l.at (length l.text) l.p × ((length l.env ≡ length l.initial.env) × ((take l.v l.env ≡ take l.v l.initial.env) × Makes l.book l.text l.at l.k l.v (take l.v l.initial.env) l.i l.p l.env)))
-
-abbrev pub decreases-loop-i : goal.decreases-loop-i
-decreases-loop-i l = l.k - l.i
+invariant-loop-i l = record {
+  within : Within l.at (length l.text) l.p;
+  as_long : length l.env ≡ length l.initial.env;
+  chosen : take l.v l.env ≡ take l.v l.initial.env;
+  makes : Makes l.book l.text l.at l.k l.v (take l.v l.initial.env) l.i l.p l.env;
+}

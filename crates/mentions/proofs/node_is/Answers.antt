@@ -6,6 +6,5 @@ pub returns-then-num16-eq0 : goal.returns-then-num16-eq0
 returns-then-num16-eq0 c =
     node_variable c.args.text.now c.args.at c.args.v _ (sym c.num16.ensures.0 ∙ c.if-num16-eq0.true) c.num16-then-num16-eq0.ensures.0
 
-pub returns : goal.returns
-returns c =
-    node_other c.args.text.now c.args.at c.args.v (λ z. c.if-num16-eq0.false (c.num16.ensures.0 ∙ z))
+pub returns-else-num16-eq0 : goal.returns-else-num16-eq0
+returns-else-num16-eq0 c = node_other c.args.text.now c.args.at c.args.v _ c.num16.ensures.0 c.if-num16-eq0.false

@@ -1,12 +1,12 @@
 -- The three ways out: one already, the first is the smaller, the second is.
 use Rattle.merge.specs.Next.{next_same, next_into}
-use Rattle.sheets.specs.Form.{limits_of}
+use Rattle.limits.specs.Limits.{limits_of}
 use native.Mathlib.Omega.{arith}
 use Rattle.merge.proofs.merge_next.Goals as goal
 
 pub returns-then-x-y : goal.returns-then-x-y
 returns-then-x-y c =
-    next_same (limits_of c.args.le c.args.lk c.args.lf) c.args.top c.args.w.now c.requires.0 c.requires.1 c.if-x-y.true
+    next_same (limits_of c.args.limits) c.args.top c.args.w.now c.requires.0 c.requires.1 c.if-x-y.true
 
 pub merge_into-requires : goal.merge_into-requires
 merge_into-requires c =
@@ -15,7 +15,7 @@ merge_into-requires c =
 
 pub returns-then-x-y-2 : goal.returns-then-x-y-2
 returns-then-x-y-2 c =
-    next_into (limits_of c.args.le c.args.lk c.args.lf) c.args.top c.args.w.now c.requires.0 c.requires.1 _ _ _ _ c.if-x-y.false (omega arith) (omega arith) c.merge_into.ensures
+    next_into (limits_of c.args.limits) c.args.top c.args.w.now c.requires.0 c.requires.1 _ _ _ _ c.if-x-y.false (omega arith) (omega arith) c.merge_into.ensures
 
 pub merge_into-requires-2 : goal.merge_into-requires-2
 merge_into-requires-2 c =
@@ -24,4 +24,4 @@ merge_into-requires-2 c =
 
 pub returns : goal.returns
 returns c =
-    next_into (limits_of c.args.le c.args.lk c.args.lf) c.args.top c.args.w.now c.requires.0 c.requires.1 _ _ _ _ c.if-x-y.false (omega arith) (omega arith) c.merge_into-2.ensures
+    next_into (limits_of c.args.limits) c.args.top c.args.w.now c.requires.0 c.requires.1 _ _ _ _ c.if-x-y.false (omega arith) (omega arith) c.merge_into-2.ensures

@@ -1,23 +1,23 @@
 -- One exit for each test, in the order of the definition.
+use Rattle.std.proofs.Common.{◌≡◌, ◌&&◌, leb, true, false, le-leb, rules, arith}
 use Rattle.base.specs.Branch.{if}
-use Rattle.rules.specs.Reading.{number, ranged, and_then}
-use borrow.Author.Tests.{le-leb, lt-leb}
-use Rattle.numbers.specs.Answers.{value, value_is, value_fault}
-use mathlib.Core.Path.{sym, ◌∙◌}
+use Rattle.rules.specs.Reading.{ranged, and_then}
+use Rattle.refusals.specs.Numbers.{passed_on}
+use Rattle.numbers.specs.Answers.{outside}
 use Rattle.numbers.proofs.read_ranged.Goals as goal
 
-pub returns-then-x-low : goal.returns-then-x-low
-unfolding value ranged and_then if
-returns-then-x-low c = let d = value_is (number c.args.book.now c.args.at) _ _ (sym c.in-Is.is ∙ c.read_number.ensures) in ((rw (d, lt-leb _ _ c.if-x-low.true)), tt)
+pub returns-in_err-x-clause-reads : goal.returns-in_err-x-clause-reads
+unfolding ranged and_then
+returns-in_err-x-clause-reads c = rw (passed_on _ _ c.from_residual.ensures.1, ← c.in_err-x.ensures)
 
-pub returns-then-x-high : goal.returns-then-x-high
-unfolding value ranged and_then if
-returns-then-x-high c = let d = value_is (number c.args.book.now c.args.at) _ _ (sym c.in-Is.is ∙ c.read_number.ensures) in ((rw (d, le-leb _ _ c.if-x-low.false, lt-leb _ _ c.if-x-high.true)), tt)
+pub returns-then-not-contains-clause-reads : goal.returns-then-not-contains-clause-reads
+unfolding ranged and_then if
+returns-then-not-contains-clause-reads c =
+    let b : leb c.args.low c.in_ok-x.x && leb c.in_ok-x.x c.args.high ≡ false = outside c.args.low c.args.high c.in_ok-x.x (λ a b. grind (arith, c.if-not-contains.ensures.cases)) in
+    rw (c.refuse.ensures, ← c.in_ok-x.ensures, b)
 
-pub returns-in-Fault : goal.returns-in-Fault
-unfolding value ranged and_then
-returns-in-Fault c = let d = value_fault (number c.args.book.now c.args.at) _ _ (sym c.in-Fault.is ∙ c.read_number.ensures) in ((rw d), tt)
-
-pub returns-else-x-high : goal.returns-else-x-high
-unfolding value ranged and_then if
-returns-else-x-high c = let d = value_is (number c.args.book.now c.args.at) _ _ (sym c.in-Is.is ∙ c.read_number.ensures) in ((rw (d, le-leb _ _ c.if-x-low.false, le-leb _ _ c.if-x-high.false)), c.if-x-high.false)
+pub returns-clause-reads : goal.returns-clause-reads
+unfolding ranged and_then if
+returns-clause-reads c =
+    let b : leb c.args.low c.in_ok-x.x && leb c.in_ok-x.x c.args.high ≡ true = rw (le-leb c.args.low c.in_ok-x.x (search rules), le-leb c.in_ok-x.x c.args.high (search rules)) in
+    rw (← c.in_ok-x.ensures, b)

@@ -1,19 +1,18 @@
 -- One exit for each test, in the order of the definition.
+use Rattle.std.proofs.Common.{eq-eqb, ne_eqb}
 use Rattle.base.specs.Branch.{if}
-use Rattle.rules.specs.Reading.{number, version, and_then}
-use borrow.Author.Tests.{eq-eqb, ne_eqb}
-use Rattle.numbers.specs.Answers.{value, value_is, value_fault}
-use mathlib.Core.Path.{sym, ◌∙◌}
+use Rattle.rules.specs.Reading.{version, and_then}
+use Rattle.refusals.specs.Numbers.{passed_on}
 use Rattle.numbers.proofs.read_version.Goals as goal
 
-pub returns-then-x-eq1 : goal.returns-then-x-eq1
-unfolding value version and_then if
-returns-then-x-eq1 c = let d = value_is (number c.args.book.now c.args.at) _ _ (sym c.in-Is.is ∙ c.read_number.ensures) in rw (d, eq-eqb _ _ c.if-x-eq1.true)
+pub returns-in_err-x : goal.returns-in_err-x
+unfolding version and_then
+returns-in_err-x c = rw (passed_on _ _ c.from_residual.ensures.1, ← c.in_err-x.ensures)
 
-pub returns-in-Fault : goal.returns-in-Fault
-unfolding value version and_then
-returns-in-Fault c = let d = value_fault (number c.args.book.now c.args.at) _ _ (sym c.in-Fault.is ∙ c.read_number.ensures) in rw d
+pub returns-then-x-ne1 : goal.returns-then-x-ne1
+unfolding version and_then if
+returns-then-x-ne1 c = rw (c.refuse.ensures, ← c.in_ok-x.ensures, ne_eqb _ _ c.if-x-ne1.true)
 
-pub returns-else-x-eq1 : goal.returns-else-x-eq1
-unfolding value version and_then if
-returns-else-x-eq1 c = let d = value_is (number c.args.book.now c.args.at) _ _ (sym c.in-Is.is ∙ c.read_number.ensures) in rw (d, ne_eqb _ _ c.if-x-eq1.false)
+pub returns : goal.returns
+unfolding version and_then if
+returns c = rw (← c.in_ok-x.ensures, eq-eqb _ _ c.if-x-ne1.false)

@@ -1,21 +1,11 @@
-use mathlib.Core.Path.{◌≡◌, refl}
-use native.Mathlib.Omega.{arith}
-use lib.ListN.{length-set}
+-- One more entry is read at the front of what is left of the table.
+use Rattle.std.proofs.Common.{arith, refl}
 use Rattle.octets.specs.Words.{numbers_at, numbers_set}
 use Rattle.octets.proofs.load_words.Goals as goal
 
 pub loop-i-init : goal.loop-i-init
 unfolding numbers_at
-loop-i-init c = (omega arith, (refl, refl))
+loop-i-init c = refl
 
 pub loop-i-preserved : goal.loop-i-preserved
-loop-i-preserved c =
-    (omega arith, (simp length-set c.loop-i.invariant.1.0, rw (c.loop-i.invariant.1.1, c.load.ensures) (numbers_set c.args.s.now c.args.at c.loop-i.i c.args.t.now (omega arith))))
-
-pub shape_of-t : goal.shape_of-t
-shape_of-t c = c.loop-i.invariant.1.0
-
-pub returns : goal.returns
-returns c =
-    let e : c.loop-i.i ≡ c.args.n = omega arith in
-    rw e at c.loop-i.invariant.1.1
+loop-i-preserved c = rw (c.loop-i.invariant, c.load.ensures) (numbers_set c.args.s.now c.args.at c.loop-i.i c.args.t.now (omega arith))

@@ -1,35 +1,10 @@
-use native.Mathlib.Omega.{arith}
-use native.Mathlib.Numerals.{towards_suc}
-use lib.ListN.{length-set}
-use lib.Seq.{sets-eq}
-use Rattle.octets.specs.Patch.{patched}
+-- The bytes that are copied in are those of `octets`.
+use Rattle.std.proofs.Common.{◌∙◌}
+use Rattle.octets.specs.Patch.{patched_lent}
 use Rattle.octets.specs.Words.{octets}
 use Rattle.octets.proofs.store.Goals as goal
 
-pub bounds-s-at-2 : goal.bounds-s-at-2
-bounds-s-at-2 c = simp length-set (omega arith)
-
-pub bounds-s-at-3 : goal.bounds-s-at-3
-bounds-s-at-3 c = simp length-set (omega arith)
-
-pub bounds-s-at-4 : goal.bounds-s-at-4
-bounds-s-at-4 c = simp length-set (omega arith)
-
-pub bounds-s-at-5 : goal.bounds-s-at-5
-bounds-s-at-5 c = simp length-set (omega arith)
-
-pub bounds-s-at-6 : goal.bounds-s-at-6
-bounds-s-at-6 c = simp length-set (omega arith)
-
-pub bounds-s-at-7 : goal.bounds-s-at-7
-bounds-s-at-7 c = simp length-set (omega arith)
-
-pub bounds-s-at-8 : goal.bounds-s-at-8
-bounds-s-at-8 c = simp length-set (omega arith)
-
-pub shape_of-s : goal.shape_of-s
-shape_of-s c = simp length-set
-
 pub returns : goal.returns
-unfolding patched octets
-returns c = simp towards_suc (simp towards_suc at (sets-eq (octets c.args.x) c.args.s.now c.args.at c.requires))
+unfolding octets
+returns c =
+    patched_lent c.args.at 8 c.copy_from_slice.new.self (octets c.args.x) c.args.s.now c.requires c.copy_from_slice.ensures.len (c.copy_from_slice.ensures.after ∙ c.to_be_bytes.ensures)

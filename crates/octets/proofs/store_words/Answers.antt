@@ -1,30 +1,19 @@
-use Prim.Native.Nat.{◌+◌}
-use mathlib.Core.Path.{◌≡◌, refl, sym, ◌∙◌}
-use native.Mathlib.Omega.{arith}
-use lib.ListN.{take}
-use lib.Seq.{length-take-le}
-use Rattle.octets.specs.Patch.{written, written_none, written_more, written_all}
+-- The entries that were passed stand as one patch, and zeros fill the rest of the room.
+use Rattle.std.proofs.Common.{arith, sym, ◌∙◌, ◌+◌, ◌*◌}
+use Rattle.base.specs.Lists.{flat}
+use Rattle.octets.specs.Patch.{patched_none, patched_more, patched_table}
 use Rattle.octets.specs.Words.{octets, octets_length}
 use Rattle.octets.proofs.store_words.Goals as goal
 
 pub loop-i-init : goal.loop-i-init
-loop-i-init c = (omega arith, (refl, sym (written_none _ _ _ _ _)))
+unfolding flat
+loop-i-init c = sym (patched_none c.args.at c.args.s.now)
 
 pub loop-i-preserved : goal.loop-i-preserved
 loop-i-preserved c =
-    let xs = take c.args.n c.args.t.now in
-    let w = length-take-le c.args.n c.args.t.now c.requires.1.0 in
-    let e : c.store.new.s ≡ written octets c.args.at c.args.room xs (c.loop-i.i + 1) c.args.s.now =
-    c.store.ensures
-    ∙ (rw (c.loop-i.invariant.1.1, c.entry.ensures) (written_more 8 octets octets_length c.args.at c.args.room xs c.args.s.now (omega arith) c.loop-i.i (omega arith) (omega arith))) in
-    (omega arith, (omega arith, e))
-
-pub shape_of-s : goal.shape_of-s
-shape_of-s c = c.loop-i.invariant.1.0
+    c.store.ensures ∙ rw c.loop-i.invariant (patched_more 8 octets octets_length c.args.at c.args.t.now c.args.s.now c.loop-i.i (c.args.at + 8 * c.loop-i.i) (omega arith) (omega arith) (omega arith))
 
 pub returns : goal.returns
-unfolding octets
 returns c =
-    let e : c.loop-i.i ≡ c.args.room = omega arith in
-    let w = length-take-le c.args.n c.args.t.now c.requires.1.0 in
-    (rw e at c.loop-i.invariant.1.1) ∙ written_all 8 octets octets_length c.args.at c.args.room (take c.args.n c.args.t.now) c.args.s.now (omega arith) refl
+    patched_table 8 octets octets_length c.args.at (8 * c.args.room) _ _ c.loop-i.i c.args.t.now c.args.s.now c.loop-i.s c.fill.new.self
+    (omega arith) (omega arith) (omega arith) c.loop-i.invariant (omega arith) (omega arith) (c.fill.ensures.after (λ y e. e))

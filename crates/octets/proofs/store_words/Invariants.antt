@@ -1,12 +1,8 @@
-use Prim.Native.Nat.{◌≤◌, ◌-◌}
-use mathlib.Core.Path.{◌≡◌}
-use lib.ListN.{length, take}
-use Rattle.octets.specs.Patch.{written}
+use Rattle.std.proofs.Common.{◌≡◌, map, take}
+use Rattle.base.specs.Lists.{flat}
+use Rattle.octets.specs.Patch.{patched}
 use Rattle.octets.specs.Words.{octets}
 use Rattle.octets.proofs.store_words.Given as goal
 
 abbrev pub invariant-loop-i : goal.invariant-loop-i
-invariant-loop-i l = (l.i ≤ l.room) × ((length l.s ≡ length l.initial.s) × (l.s ≡ written octets l.at l.room (take l.n l.t) l.i l.initial.s))
-
-abbrev pub decreases-loop-i : goal.decreases-loop-i
-decreases-loop-i l = l.room - l.i
+invariant-loop-i l = l.s ≡ patched l.at (flat (map octets (take l.i l.t))) l.initial.s

@@ -1,28 +1,26 @@
 -- The child is made, and goes into the lowest free slot.
 use native.Mathlib.Omega.{arith}
-use Prim.Native.Nat.{◌+◌, ◌*◌}
 use lib.ListN.{length}
-use Rattle.rules.specs.Calls.{bound_of}
-use Rattle.sheets.specs.Form.{limits_of}
-use Rattle.offspring.specs.One.{slot_inside, one_full, one_placed}
+use Rattle.bound.specs.Bounds.{bound_is}
+use Rattle.limits.specs.Limits.{limits_of, slot_size}
+use Rattle.offspring.specs.One.{slot_inside, one_over, one_full, one_placed}
 use Rattle.offspring.proofs.place_one.Goals as goal
 
-pub returns-then-i-slots : goal.returns-then-i-slots
-returns-then-i-slots c =
-    record {
-      env_unchanged = c.derive-g.ensures.env_unchanged;
-      placed_one = one_full c.args.book.now c.args.at c.args.v (bound_of c.args.kind c.args.number) (limits_of c.args.le c.args.lk c.args.lf) c.args.place c.args.env.now c.args.base.now c.args.slots c.args.pool.now
-          c.derive-g.result.cut c.derive-g.result.over c.derive-g.new.w c.derive-g.ensures.derived c.lowest_free-i.result c.lowest_free-i.ensures.0 c.lowest_free-i.ensures.1 c.if-i-slots.true;
-    }
+pub returns-in_default-clause-placed_one : goal.returns-in_default-clause-placed_one
+returns-in_default-clause-placed_one c =
+    one_over c.args.book.now c.args.at c.args.v (bound_is c.args.bound) (limits_of c.args.limits) c.args.place c.args.env.now c.args.base.now c.args.slots c.args.pool.now
+    c.in_default.field-0 c.derive.new.w c.in_default.ensures.derived
 
 pub place_child-requires : goal.place_child-requires
 place_child-requires c =
-    (c.derive-g.ensures.sturdy.formed, slot_inside (16 + 8 * c.args.lk + 8 * c.args.lf + c.args.le) c.lowest_free-i.result c.args.slots (length c.args.pool.now) (omega (arith, c.if-i-slots.false)) c.requires.1)
+    (c.in-Ok.ensures.sturdy.formed, slot_inside (slot_size (limits_of c.args.limits)) c.in-Some.i c.args.slots (length c.args.pool.now) c.in-Some.ensures.0 c.requires.1)
 
-pub returns : goal.returns
-returns c =
-    record {
-      env_unchanged = c.derive-g.ensures.env_unchanged;
-      placed_one = one_placed c.args.book.now c.args.at c.args.v (bound_of c.args.kind c.args.number) (limits_of c.args.le c.args.lk c.args.lf) c.args.place c.args.env.now c.args.base.now c.args.slots c.args.pool.now
-          c.derive-g.result.cut c.derive-g.result.over c.derive-g.new.w c.derive-g.ensures.derived c.lowest_free-i.result c.lowest_free-i.ensures.0 c.lowest_free-i.ensures.1 _ c.place_child.ensures;
-    }
+pub returns-in-Some-clause-placed_one : goal.returns-in-Some-clause-placed_one
+returns-in-Some-clause-placed_one c =
+    one_placed c.args.book.now c.args.at c.args.v (bound_is c.args.bound) (limits_of c.args.limits) c.args.place c.args.env.now c.args.base.now c.args.slots c.args.pool.now
+    c.in-Some.i (omega (arith, c.in-Some.ensures.0)) c.in-Some.ensures.1 c.in-Ok.cut _ c.in-Ok.ensures.derived _ c.place_child.ensures
+
+pub returns-in_default-lowest_free-clause-placed_one : goal.returns-in_default-lowest_free-clause-placed_one
+returns-in_default-lowest_free-clause-placed_one c =
+    one_full c.args.book.now c.args.at c.args.v (bound_is c.args.bound) (limits_of c.args.limits) c.args.place c.args.env.now c.args.base.now c.args.slots c.args.pool.now
+    c.args.slots (omega arith) c.in_default-lowest_free.ensures (omega arith)

@@ -1,17 +1,26 @@
 -- `open_checked` meets its contract: each way out by its law.
-use mathlib.Core.Path.{ap₂, ◌∙◌}
-use Rattle.openings.specs.Order.{first_refusal}
-use Rattle.openings.specs.Open.{length_least, right_true, settings_within, open_unfit, open_fit, opens}
+use Rattle.refusals.specs.Numbers.{passed_on}
+use Rattle.openings.specs.Open.{length_least, right_true, open_eleven, no_scheduler, no_strategy, opens}
 use Rattle.openings.proofs.open_checked.Goals as goal
 
-pub returns-then-n-ne0 : goal.returns-then-n-ne0
-returns-then-n-ne0 c = open_unfit _ _ _ _ (c.first_refusal-n.ensures ∙ ap₂ first_refusal c.right_length-right.ensures c.known_settings-known.ensures) c.if-n-ne0.true
+pub returns-in_err-check_length : goal.returns-in_err-check_length
+returns-in_err-check_length c =
+    rw (passed_on _ _ c.from_residual.ensures.1, c.in_err-check_length.ensures.0) (open_eleven c.args.pool.now c.args.scheduler c.args.strategy c.in_err-check_length.ensures.1)
+
+pub returns-in_err-scheduler : goal.returns-in_err-scheduler
+returns-in_err-scheduler c =
+    rw (passed_on _ _ c.from_residual-in_err-scheduler.ensures.1, c.in_err-scheduler.ensures.0)
+    (no_scheduler c.args.pool.now c.args.scheduler c.args.strategy c.in_ok-check_length.ensures c.in_err-scheduler.ensures.1)
+
+pub returns-in_err-strategy : goal.returns-in_err-strategy
+returns-in_err-strategy c =
+    rw (passed_on _ _ c.from_residual-in_err-strategy.ensures.1, c.in_err-strategy.ensures.0)
+    (no_strategy c.args.pool.now c.args.scheduler c.args.strategy c.in_ok-check_length.ensures c.in_ok-scheduler.scheduler c.in_ok-scheduler.ensures c.in_err-strategy.ensures.1)
 
 pub write_open-requires : goal.write_open-requires
-write_open-requires c =
-    let f = open_fit c.args.pool.now c.args.scheduler c.args.strategy _ (c.first_refusal-n.ensures ∙ ap₂ first_refusal c.right_length-right.ensures c.known_settings-known.ensures) c.if-n-ne0.false in
-    let s = settings_within c.args.scheduler c.args.strategy f.1 in
-    (length_least _ f.0, (right_true _ f.0, (s.0, s.1)))
+write_open-requires c = (length_least _ c.in_ok-check_length.ensures, right_true _ c.in_ok-check_length.ensures)
 
 pub returns : goal.returns
-returns c = opens _ _ _ _ (c.first_refusal-n.ensures ∙ ap₂ first_refusal c.right_length-right.ensures c.known_settings-known.ensures) c.if-n-ne0.false _ c.write_open.ensures
+returns c =
+    opens c.args.pool.now c.args.scheduler c.args.strategy c.in_ok-check_length.ensures
+    c.in_ok-scheduler.scheduler c.in_ok-scheduler.ensures c.in_ok-strategy.strategy c.in_ok-strategy.ensures _ c.write_open.ensures

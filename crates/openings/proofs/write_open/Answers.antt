@@ -26,5 +26,4 @@ pub bounds-pool-12 : goal.bounds-pool-12
 bounds-pool-12 c = simp length-set (omega arith)
 
 pub returns : goal.returns
-returns c =
-    open_written _ _ c.args.pool.now _ c.requires.1.0 c.clear.ensures
+returns c = rw (c.from.ensures, c.from-2.ensures) (open_written _ _ c.args.pool.now _ c.requires.1 c.clear.ensures)

@@ -1,15 +1,13 @@
 -- The line, or nothing.
-use native.Mathlib.Omega.{arith}
-use mathlib.Core.Path.{sym, ◌∙◌}
-use Rattle.lines.specs.Wrote.{wrote_none, wrote_as}
+use Rattle.std.proofs.Common.{sym, ◌∙◌, ap, ◌++◌, append-nil}
+use Rattle.rules.specs.Reading.{Bytes}
 use Rattle.pages.specs.Tables.{depth_yielded, depth_unknown}
 use Rattle.pages.proofs.depth_part.Goals as goal
 
-pub returns-then-yielded : goal.returns-then-yielded
-returns-then-yielded c =
-    let q = rw c.byte.ensures.0 at c.depth_line.ensures.0 in
-    (wrote_as _ (depth_yielded c.args.keys c.args.e c.args.s.now (sym c.yielded.ensures ∙ c.if-yielded.true)) q, omega arith)
+pub returns-then-yielded-clause-text : goal.returns-then-yielded-clause-text
+returns-then-yielded-clause-text g c =
+    c.depth_line.ensures.text ∙ ap (λ (l : Bytes). c.args.page.now ++ l) (depth_yielded c.args.keys c.args.e c.args.s.now (sym c.yielded.ensures ∙ c.if-yielded.true))
 
-pub returns : goal.returns
-returns c =
-    (wrote_as _ (depth_unknown c.args.keys c.args.e c.args.s.now (sym c.yielded.ensures ∙ c.if-yielded.false)) (wrote_none c.args.out.now c.args.n (omega arith)), omega arith)
+pub returns-else-yielded-clause-text : goal.returns-else-yielded-clause-text
+returns-else-yielded-clause-text g c =
+    sym (append-nil c.args.page.now) ∙ ap (λ (l : Bytes). c.args.page.now ++ l) (depth_unknown c.args.keys c.args.e c.args.s.now (sym c.yielded.ensures ∙ c.if-yielded.false))

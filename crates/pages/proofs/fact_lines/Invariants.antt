@@ -1,12 +1,7 @@
-use Prim.Native.Nat.{◌+◌, ◌-◌, ◌*◌, ◌≤◌}
-use mathlib.Core.Path.{◌≡◌}
-use lib.ListN.{length}
-use Rattle.lines.specs.Wrote.{Wrote}
+-- The lines of the entries passed are written.
+use Rattle.std.proofs.Common.{◌≡◌, ◌+◌, ◌*◌, ◌≤◌, ◌++◌, length}
 use Rattle.pages.specs.Tables.{fact_text, table_text}
 use Rattle.pages.proofs.fact_lines.Given as goal
 
 abbrev pub invariant-loop-i : goal.invariant-loop-i
-invariant-loop-i l = ((l.i ≤ l.facts) × (l.m ≤ l.n + 25 * l.i)) × ((length l.out ≡ length l.initial.out) × Wrote l.initial.out l.n (table_text fact_text 1040 l.i l.s) l.out l.m)
-
-abbrev pub decreases-loop-i : goal.decreases-loop-i
-decreases-loop-i l = l.facts - l.i
+invariant-loop-i g l = (l.page ≡ l.initial.page ++ table_text fact_text 1040 l.i l.s) × (length l.page ≤ length l.initial.page + 25 * l.i)

@@ -1,12 +1,8 @@
-use Prim.Native.Nat.{◌+◌, ◌-◌, ◌*◌, ◌≤◌}
-use mathlib.Core.Path.{◌≡◌}
-use lib.ListN.{length, take, drop}
-use Rattle.lines.specs.Wrote.{Wrote}
+-- The sheets of the slots passed are written.
+use Rattle.std.proofs.Common.{◌≡◌, ◌+◌, ◌*◌, ◌≤◌, ◌++◌, length, take}
 use Rattle.pages.specs.Tables.{slots_text}
 use Rattle.pages.proofs.list_lines.Given as goal
 
-abbrev pub invariant-loop-j : goal.invariant-loop-j
-invariant-loop-j l = ((l.j ≤ l.slots) × (l.m ≤ l.n + 8468 * l.j)) × ((length l.out ≡ length l.initial.out) × Wrote l.initial.out l.n (slots_text l.standing l.pool (take l.j (drop l.at l.pool))) l.out l.m)
-
-abbrev pub decreases-loop-j : goal.decreases-loop-j
-decreases-loop-j l = l.slots - l.j
+abbrev pub invariant-loop-i : goal.invariant-loop-i
+invariant-loop-i g l =
+    (l.page ≡ l.initial.page ++ slots_text l.standing l.pool (take l.i-index l.slots)) × (length l.page ≤ length l.initial.page + 8468 * l.i-index)

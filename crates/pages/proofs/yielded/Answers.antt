@@ -1,17 +1,11 @@
--- No key passed yields the element.
-use native.Mathlib.Omega.{arith}
-use mathlib.Core.Path.{sym, ◌∙◌}
-use Rattle.pages.specs.Tables.{value_here, value_there, value_none}
+-- The keys' values, one after another.
+use Rattle.std.proofs.Common.{◌+◌, ◌*◌, ◌∙◌, refl, get_or, eqb, arith, rules, tests}
+use Rattle.std.proofs.lemmas.Iterator.{YieldsList-from_range}
+use Rattle.std.proofs.lemmas.Iterator.Search.{any_from_yields_List}
+use Rattle.pages.specs.Tables.{values_are}
 use Rattle.pages.proofs.yielded.Goals as goal
-
-pub returns-then-byte-element : goal.returns-then-byte-element
-returns-then-byte-element c =
-    value_here c.args.keys c.args.s.now c.args.element c.loop-i.i c.loop-i.invariant.1 (omega arith) (sym c.byte.ensures.0 ∙ c.if-byte-element.true)
-
-pub loop-i-preserved : goal.loop-i-preserved
-loop-i-preserved c =
-    (omega arith, value_there c.args.keys c.args.s.now c.args.element c.loop-i.i c.loop-i.invariant.1 (omega arith) (λ q. c.if-byte-element.false (c.byte.ensures.0 ∙ q)))
 
 pub returns : goal.returns
 returns c =
-    value_none c.args.keys c.args.s.now c.args.element c.loop-i.i c.loop-i.invariant.1 (omega arith)
+    any_from_yields_List (λ i. eqb (get_or c.args.s.now (16 + 8 * i + 7) 0) c.args.element) _ _ c.any.result c.any.ensures.ran (YieldsList-from_range 0 c.args.keys c.args.keys refl (omega arith)) (λ x b q k. search (rules, tests))
+    ∙ values_are c.args.keys c.args.element c.args.s.now

@@ -16,10 +16,10 @@ slots_right-requires c =
 pub returns-then-frame_right : goal.returns-then-frame_right
 returns-then-frame_right c =
     let r = right_slots (length c.args.pool.now) c.requires in
-    let e = rw (c.places.ensures, c.byte.ensures.0) at c.slots_right.ensures in
+    let e = rw (c.places.ensures, c.of_byte-strategy.ensures, c.byte.ensures.0) at c.slots_right.ensures in
     λ b ok. e ∙ slots_out c.args.book.now c.args.pool.now _ r.0 (λ j. (c.type_inv.pool j).fits) b ok (sym c.frame_right.ensures ∙ c.if-frame_right.true)
 
-pub returns : goal.returns
-returns c =
+pub returns-else-frame_right : goal.returns-else-frame_right
+returns-else-frame_right c =
     let r = right_slots (length c.args.pool.now) c.requires in
-    λ b ok. frame_out c.args.book.now c.args.pool.now _ r.0 (λ j. (c.type_inv.pool j).fits) b ok (sym c.frame_right.ensures ∙ c.if-frame_right.false)
+    λ b ok. c.if-frame_right.false ∙ frame_out c.args.book.now c.args.pool.now _ r.0 (λ j. (c.type_inv.pool j).fits) b ok (sym c.frame_right.ensures ∙ c.if-frame_right.false)

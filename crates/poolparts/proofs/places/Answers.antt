@@ -4,11 +4,8 @@ use native.Mathlib.Omega.{arith}
 use Rattle.poolparts.specs.Ways.{one_place, fair_places}
 use Rattle.poolparts.proofs.places.Goals as goal
 
-pub returns-then-strategy-eq0 : goal.returns-then-strategy-eq0
-returns-then-strategy-eq0 c = one_place _ _ c.if-strategy-eq0.true
+pub returns-in-Linear : goal.returns-in-Linear
+returns-in-Linear c = rw c.in-Linear.is (one_place _)
 
-pub returns-then-n-eq0 : goal.returns-then-n-eq0
-returns-then-n-eq0 c = let e = c.sequent_count-n.ensures.0 in omega arith ∙ fair_places _ _ c.if-strategy-eq0.false
-
-pub returns : goal.returns
-returns c = let e = c.sequent_count-n.ensures.0 in omega arith ∙ fair_places _ _ c.if-strategy-eq0.false
+pub returns-in-Fair : goal.returns-in-Fair
+returns-in-Fair c = let e = c.sequent_count.ensures.0 in rw c.in-Fair.is (omega arith ∙ fair_places _)

@@ -1,13 +1,15 @@
 -- A law for each way out.
-use Rattle.lines.specs.Wrote.{wrote_as}
-use Rattle.printing.specs.Stops.{ran_zero, ran_refused, ran_stopped}
+use Rattle.std.proofs.Common.{◌≤◌, ◌++◌, ◌∙◌, ap, arith, rules, tests}
+use Rattle.rules.specs.Reading.{Bytes}
+use Rattle.printing.specs.Stops.{ran_refused, ran_listed}
 use Rattle.printing.proofs.ran_text.Goals as goal
 
-pub returns-then-stop-eq0 : goal.returns-then-stop-eq0
-returns-then-stop-eq0 c = wrote_as _ (ran_zero c.args.stop c.args.steps c.args.pool.now c.if-stop-eq0.true) c.listing.ensures
+pub returns-then-contains : goal.returns-then-contains
+returns-then-contains g c =
+    let low : 1 ≤ c.args.stop = search (rules, tests) in
+    let high : c.args.stop ≤ 13 = search (rules, tests) in
+    c.refusal.ensures.text ∙ ap (λ (l : Bytes). c.args.page.now ++ l) (ran_refused c.args.stop c.args.steps c.args.pool.now (λ z. absurd (omega arith)) (omega arith))
 
-pub returns-then-stop-lt14 : goal.returns-then-stop-lt14
-returns-then-stop-lt14 c = wrote_as _ (ran_refused c.args.stop c.args.steps c.args.pool.now c.if-stop-eq0.false c.if-stop-lt14.true) c.refusal.ensures.0
-
-pub returns : goal.returns
-returns c = wrote_as _ (ran_stopped c.args.stop c.args.steps c.args.pool.now c.if-stop-eq0.false c.if-stop-lt14.false) c.listing-2.ensures
+pub returns-else-contains : goal.returns-else-contains
+returns-else-contains g c =
+    c.listing.ensures ∙ ap (λ (l : Bytes). c.args.page.now ++ l) (ran_listed c.args.stop c.args.steps c.args.pool.now (λ h. search (rules, tests)))

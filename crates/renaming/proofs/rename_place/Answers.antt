@@ -1,23 +1,18 @@
-use native.Mathlib.Omega.{arith}
-use Rattle.renaming.specs.Table.{stayed_sorted, gone_sorted, place_through}
+-- The two parts are in order, and together they are the table renamed.
+use Rattle.std.proofs.Common.{◌≡◌, arith, ◌∙◌, ◌-◌, length, take, length-take-le}
+use Rattle.renaming.specs.Table.{stayed_sorted, gone_sorted, parts_made}
 use Rattle.renaming.proofs.rename_place.Goals as goal
 
 pub bring_back-requires : goal.bring_back-requires
 bring_back-requires c =
-    let q = c.set_apart-gone.ensures in (
-      q.fewer,
-      (
-        omega (arith, c.requires.0, q.elsewhere.size),
-        (
-          omega (arith, c.requires.1.0, q.elsewhere.size),
-          (
-            c.requires.1.1.0,
-            (stayed_sorted c.args.p c.args.s c.args.l c.args.a c.args.n c.args.b _ c.args.w.now _ c.requires.1.1.1.1.1 q, gone_sorted c.args.p c.args.s c.args.l c.args.a c.args.n c.args.b _ c.args.w.now _ c.requires.1.1.1.1.1 q),
-          ),
-        ),
-      ),
-    )
+    let q = c.set_apart-gone.ensures in
+    let g = c.set_apart-gone.result in
+    let w : length (take g c.set_apart-gone.new.spare) ≡ g = length-take-le g c.set_apart-gone.new.spare (omega (arith, c.requires.0, q.fewer)) in
+    (omega (arith, q.fewer), (stayed_sorted c.args.p c.args.s c.args.l g _ c.args.table.now _ _ c.requires.1.1.1 q (omega arith), gone_sorted c.args.p c.args.s c.args.l g (length c.args.table.now - g) c.args.table.now _ _ c.requires.1.1.1 q (omega arith)))
 
 pub returns : goal.returns
 returns c =
-    place_through c.args.p c.args.s c.args.l c.args.a c.args.n c.args.b _ c.args.w.now _ c.requires.1.1.1.1.1 c.set_apart-gone.ensures _ c.bring_back.ensures
+    let q = c.set_apart-gone.ensures in
+    let g = c.set_apart-gone.result in
+    let w : length (take g c.set_apart-gone.new.spare) ≡ g = length-take-le g c.set_apart-gone.new.spare (omega (arith, c.requires.0, q.fewer)) in
+    c.bring_back.ensures ∙ parts_made c.args.p c.args.s c.args.l g _ c.args.table.now _ _ c.requires.1.1.1 q (omega arith)

@@ -1,37 +1,28 @@
-use native.Mathlib.Omega.{arith}
-use Rattle.renaming.specs.Table.{through_sorted, places_through}
+-- After each place the table is in order, renamed at the places so far; all weights are some.
+use Rattle.std.proofs.Common.{◌≡◌, ◌<◌, arith, refl, subst}
+use Rattle.base.specs.ListLaws.{all_get_d}
+use Rattle.renaming.specs.declared.TheConstants.{WEIGHTS}
+use Rattle.renaming.specs.Table.{Renaming, renaming_start, renaming_sorted, renaming_next, renaming_end}
 use Rattle.renaming.proofs.rename_table.Goals as goal
 
+pub loop-p-init : goal.loop-p-init
+loop-p-init c = renaming_start c.args.s c.args.l WEIGHTS c.args.table.now c.requires.1.1.1
+
 pub rename_place-requires : goal.rename_place-requires
-rename_place-requires c =
-    (omega (arith, c.requires.0), (omega (arith, c.requires.1.0), (c.requires.1.1.0, (omega arith, (omega (arith, c.requires.1.1.1.0), c.requires.1.1.1.1.1)))))
+rename_place-requires c = (
+  omega (arith, c.requires.0),
+  (
+    all_get_d (λ y. 0 < y) WEIGHTS c.loop-p.p-index 0 (omega arith) (omega arith, (omega arith, (omega arith, (omega arith, (omega arith, tt))))),
+    (omega (arith, c.requires.1.0), renaming_sorted c.args.s c.args.l WEIGHTS c.args.table.now c.requires.1.1.1 c.loop-p.p-index c.loop-p.table c.loop-p.invariant),
+  ),
+)
 
-pub rename_place-requires-2 : goal.rename_place-requires-2
-rename_place-requires-2 c =
-    let t1 = c.rename_place.ensures in
-    (omega (arith, c.requires.0, t1.elsewhere.size), (omega (arith, c.requires.1.0, t1.elsewhere.size), (c.requires.1.1.0, (omega arith, (omega (arith, c.requires.1.1.1.0), through_sorted t1)))))
-
-pub rename_place-requires-3 : goal.rename_place-requires-3
-rename_place-requires-3 c =
-    let t1 = c.rename_place.ensures in
-    let t2 = c.rename_place-2.ensures in
-    (omega (arith, c.requires.0, t1.elsewhere.size, t2.elsewhere.size), (omega (arith, c.requires.1.0, t1.elsewhere.size, t2.elsewhere.size), (c.requires.1.1.0, (omega arith, (omega (arith, c.requires.1.1.1.0), through_sorted t2)))))
-
-pub rename_place-requires-4 : goal.rename_place-requires-4
-rename_place-requires-4 c =
-    let t1 = c.rename_place.ensures in
-    let t2 = c.rename_place-2.ensures in
-    let t3 = c.rename_place-3.ensures in
-    (omega (arith, c.requires.0, t1.elsewhere.size, t2.elsewhere.size, t3.elsewhere.size), (omega (arith, c.requires.1.0, t1.elsewhere.size, t2.elsewhere.size, t3.elsewhere.size), (c.requires.1.1.0, (omega arith, (omega (arith, c.requires.1.1.1.0), through_sorted t3)))))
-
-pub rename_place-requires-5 : goal.rename_place-requires-5
-rename_place-requires-5 c =
-    let t1 = c.rename_place.ensures in
-    let t2 = c.rename_place-2.ensures in
-    let t3 = c.rename_place-3.ensures in
-    let t4 = c.rename_place-4.ensures in
-    (omega (arith, c.requires.0, t1.elsewhere.size, t2.elsewhere.size, t3.elsewhere.size, t4.elsewhere.size), (omega (arith, c.requires.1.0, t1.elsewhere.size, t2.elsewhere.size, t3.elsewhere.size, t4.elsewhere.size), (c.requires.1.1.0, (omega arith, (omega (arith, c.requires.1.1.1.0), through_sorted t4)))))
+pub loop-p-preserved : goal.loop-p-preserved
+loop-p-preserved c =
+    renaming_next c.args.s c.args.l WEIGHTS c.args.table.now c.requires.1.1.1 c.loop-p.p-index _ c.loop-p.table _ (omega arith) refl c.loop-p.invariant c.rename_place.ensures
 
 pub returns : goal.returns
 returns c =
-    places_through c.args.s c.args.l c.args.a c.args.n c.args.b c.requires.1.1.1.0 c.requires.1.1.1.1.0 c.args.w.now _ _ _ _ _ c.rename_place.ensures c.rename_place-2.ensures c.rename_place-3.ensures c.rename_place-4.ensures c.rename_place-5.ensures
+    let e : c.loop-p.p-index ≡ 5 = omega arith in
+    renaming_end c.args.s c.args.l c.args.table.now c.loop-p.table c.requires.1.0 c.requires.1.1.0
+    (subst (λ i. Renaming c.args.s c.args.l WEIGHTS i c.args.table.now c.loop-p.table) e c.loop-p.invariant)

@@ -1,9 +1,6 @@
-use Prim.Native.Nat.{◌≤◌, ◌<◌, ◌-◌}
-use lib.ListN.{length}
+-- The sum stays below the modulus, so that the next product fits.
+use Rattle.std.proofs.Common.{◌<◌}
 use Rattle.replaycalls.proofs.sum.Given as goal
 
-abbrev pub invariant-loop-i : goal.invariant-loop-i
-invariant-loop-i l = (l.i ≤ length l.s) × (l.h < 4294967291)
-
-abbrev pub decreases-loop-i : goal.decreases-loop-i
-decreases-loop-i l = length l.s - l.i
+abbrev pub invariant-loop-b : goal.invariant-loop-b
+invariant-loop-b l = l.h < 4294967291

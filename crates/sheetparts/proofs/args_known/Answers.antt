@@ -1,25 +1,13 @@
--- The arguments passed are known.
-use native.Mathlib.Omega.{arith}
-use borrow.Author.Tests.{lt-ltb, le-ltb}
-use Rattle.sheetparts.specs.Loops.{turn, out, done}
-use Rattle.sheetparts.specs.Tests.{unknown, known_at, args_known}
+-- Each of the numbers is tested.
+use mathlib.Core.Path.{ap, ◌∙◌}
+use borrow.Author.Rules.{rules}
+use Rattle.sheetparts.specs.Loops.{every}
+use Rattle.sheetparts.specs.Ran.{every_ran}
+use Rattle.sheetparts.specs.Tests.{known_at, args_known, unknown}
 use Rattle.sheetparts.proofs.args_known.Goals as goal
 
-pub loop-j-init : goal.loop-j-init
-unfolding args_known
-loop-j-init c = (omega arith, rw c.byte-n.ensures.0)
-
-pub returns-then-t-e-ge512 : goal.returns-then-t-e-ge512
-unfolding known_at unknown
-returns-then-t-e-ge512 c =
-    let q = rw c.byte-e.ensures.0 at c.if-t-e-ge512.true in
-    out _ _ _ _ c.loop-j.invariant.1 (omega arith) (le-ltb _ 512 q)
-
-pub loop-j-preserved : goal.loop-j-preserved
-unfolding known_at unknown
-loop-j-preserved c =
-    let q = rw c.byte-e.ensures.0 at c.if-t-e-ge512.false in
-    (omega arith, turn _ _ _ _ c.loop-j.invariant.1 (omega arith) (lt-ltb _ 512 q))
-
 pub returns : goal.returns
-returns c = done _ _ _ _ c.loop-j.invariant.1 (omega arith)
+unfolding known_at args_known unknown
+returns c =
+    every_ran (known_at c.args.t.now c.args.s.now c.args.at) _ _ _ _ c.all.ensures.ran (λ x b q k. search rules)
+    ∙ ap (every (known_at c.args.t.now c.args.s.now c.args.at) 0) c.byte-n.ensures.0

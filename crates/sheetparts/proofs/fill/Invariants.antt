@@ -1,11 +1,7 @@
-use Prim.Native.Nat.{◌≤◌}
 use mathlib.Core.Path.{◌≡◌}
 use lib.ListN.{length}
 use Rattle.sheetparts.specs.Tests.{Lows}
 use Rattle.sheetparts.proofs.fill.Given as goal
 
 abbrev pub invariant-loop-i : goal.invariant-loop-i
-invariant-loop-i l = (l.i ≤ l.n) × ((length l.t ≡ 256) × Lows l.s l.d l.at l.i l.n l.t)
-
-abbrev pub decreases-loop-i : goal.decreases-loop-i
-decreases-loop-i l = l.i
+invariant-loop-i l = (length l.t ≡ 256) × Lows l.s l.d l.at l.i l.n l.t

@@ -5,10 +5,10 @@ use Rattle.sheetparts.specs.Tests.{wanted, unknown}
 use Rattle.sheetparts.specs.Ways.{on, off}
 use Rattle.sheetparts.proofs.wanted.Goals as goal
 
-pub returns-then-least-eq512 : goal.returns-then-least-eq512
+pub returns-then-least-eq-UNKNOWN : goal.returns-then-least-eq-UNKNOWN
 unfolding wanted unknown
-returns-then-least-eq512 c = sym (on _ _ _ (eq-eqb _ 512 c.if-least-eq512.true))
+returns-then-least-eq-UNKNOWN c = sym (on _ _ _ (eq-eqb _ 512 c.if-least-eq-UNKNOWN.true))
 
-pub returns-else-least-eq512 : goal.returns-else-least-eq512
+pub returns-else-least-eq-UNKNOWN : goal.returns-else-least-eq-UNKNOWN
 unfolding wanted unknown
-returns-else-least-eq512 c = sym (off _ _ _ (ne_eqb _ 512 c.if-least-eq512.false))
+returns-else-least-eq-UNKNOWN c = sym (off _ _ _ (ne_eqb _ 512 c.if-least-eq-UNKNOWN.false))

@@ -1,12 +1,12 @@
 use Prim.Native.Nat.{min}
 use mathlib.Core.Path.{◌∙◌, ap}
-use Rattle.sheets.specs.Form.{limits_of}
+use Rattle.limits.specs.Limits.{limits_of}
 use Rattle.sheets.specs.Load.{counted}
 use Rattle.sheets.proofs.load_counts.Goals as goal
 
 pub returns : goal.returns
 returns c =
-    counted (limits_of c.args.le c.args.lk c.args.lf) c.args.slot.now _ _ _ _ _ c.args.w.now _ c.num16-4.ensures.0 c.num16-5.ensures.0
-    (c.within-created.ensures.0 ∙ ap (λ n. min n c.args.le) c.num16.ensures.0)
-    (c.within-keys.ensures.0 ∙ ap (λ n. min n c.args.lk) c.num16-2.ensures.0)
-    (c.within-facts.ensures.0 ∙ ap (λ n. min n c.args.lf) c.num16-3.ensures.0) c.set_counts.ensures
+    counted (limits_of c.args.limits) c.args.slot.now _ _ _ _ _ c.args.w.now _ c.num16-4.ensures.0 c.num16-5.ensures.0
+    (c.within-created.ensures.0 ∙ ap (λ n. min n c.args.limits.elements) c.num16.ensures.0)
+    (c.within-keys.ensures.0 ∙ ap (λ n. min n c.args.limits.keys) c.num16-2.ensures.0)
+    (c.within-facts.ensures.0 ∙ ap (λ n. min n c.args.limits.facts) c.num16-3.ensures.0) c.set_counts.ensures

@@ -1,16 +1,12 @@
-use Prim.Native.Nat.{◌+◌, ◌-◌}
-use mathlib.Core.Path.{◌≡◌, ◌∙◌}
-use native.Mathlib.Omega.{arith}
-use lib.ListN.{length}
-use borrow.Rule.Slice.PartMut.{mid_len}
-use lib.ListN.{drop, length-drop}
-use lib.Seq.{length-take-le}
-use Rattle.sheets.specs.Load.{region_lent}
+-- The bytes that were read stand in front of the region.
+use Rattle.std.proofs.Common.{◌≡◌, arith, ap, ◌∙◌, ◌+◌, ◌-◌, length, take, drop}
+use borrow.Rule.Slice.PartMut.{mid_of, mid_len}
+use Rattle.sheets.specs.Load.{region_front}
 use Rattle.sheets.proofs.load_depths.Goals as goal
 
 pub returns : goal.returns
 returns c =
-    let k = c.args.at + c.args.room - c.args.at in
-    let ys = c.load_bytes.new.t in
-    let z : length ys ≡ k = c.load_bytes.auto.t ∙ mid_len c.args.at (c.args.at + c.args.room) c.args.w.now (omega arith) in
-    region_lent c.args.at c.args.room _ k _ _ c.args.w.now ys (omega arith) z c.load_bytes.ensures (length-take-le c.args.n (drop c.args.from c.args.slot.now) (omega (arith, length-drop c.args.from c.args.slot.now)))
+    let k = c.args.at + c.args.n - c.args.at in
+    let z : length (mid_of c.args.at k c.args.w.now) ≡ k = mid_len c.args.at (c.args.at + c.args.n) c.args.w.now (omega arith) in
+    region_front c.args.at c.args.room c.args.n k _ c.args.w.now _ (omega arith) (omega arith) (omega arith) (c.load_bytes.auto.t ∙ z)
+    (c.load_bytes.ensures ∙ ap (λ j. take j (drop c.args.from c.args.slot.now)) (z ∙ omega arith))

@@ -1,17 +1,12 @@
-use Prim.Native.Nat.{ℕ, ◌+◌, ◌-◌, ◌*◌}
-use mathlib.Core.Path.{ap, ◌∙◌}
-use mathlib.Core.List.{List, map}
-use native.Mathlib.Omega.{arith}
-use Rattle.base.specs.Lists.{flat}
-use Rattle.rules.specs.Image.{padded}
+-- The part that is lent is the table.
+use Rattle.std.proofs.Common.{◌≡◌, arith, ap, ◌∙◌, ◌+◌, ◌-◌}
+use Rattle.rules.specs.Image.{part}
 use Rattle.octets.specs.Patch.{patched}
-use Rattle.octets.specs.Words.{octets}
-use Rattle.sheets.specs.Parts.{part_front}
 use Rattle.slots.specs.Store.{table_bytes}
 use Rattle.slots.proofs.store_table.Goals as goal
 
 pub returns : goal.returns
-unfolding table_bytes
+unfolding table_bytes part
 returns c =
-    c.store_words.ensures
-    ∙ ap (λ (l : List ℕ). patched c.args.to (padded (8 * c.args.room) (flat (map octets l))) c.args.slot.now) (part_front c.args.at (c.args.at + c.args.room - c.args.at) c.args.n c.args.w.now (omega arith))
+    let k : c.args.at + c.args.n - c.args.at ≡ c.args.n = omega arith in
+    c.store_words.ensures ∙ ap (λ j. patched c.args.to (table_bytes c.args.room (part c.args.at j c.args.w.now)) c.args.slot.now) k

@@ -1,16 +1,7 @@
-use Rattle.tables.specs.Ways.{past, other, seen_found, seen_none}
+use mathlib.Core.Path.{◌∙◌}
+use Rattle.tables.specs.Table.{look_in}
+use Rattle.tables.specs.Ways.{some_is}
 use Rattle.tables.proofs.contains.Goals as goal
 
-pub returns-then-at-n : goal.returns-then-at-n
-returns-then-at-n c =
-    let e = c.rank-at.ensures.0 in
-    seen_none c.args.t.now c.args.n c.args.q _ c.requires.0 e (past c.args.t.now c.args.n c.args.q _ c.requires.0 e c.if-at-n.true)
-
-pub returns-then-x-q : goal.returns-then-x-q
-returns-then-x-q c =
-    seen_found c.args.t.now c.args.n c.args.q _ c.requires.0 c.rank-at.ensures.0 c.if-at-n.false c.if-x-q.true
-
 pub returns : goal.returns
-returns c =
-    let e = c.rank-at.ensures.0 in
-    seen_none c.args.t.now c.args.n c.args.q _ c.requires.0 e (other c.args.t.now c.args.n c.args.q _ c.requires.0 e c.if-at-n.false c.if-x-q.false)
+returns c = c.is_some.ensures ∙ some_is (look_in c.args.q c.args.t.now) c.look.result c.look.ensures.0

@@ -1,17 +1,27 @@
+-- The entry at the place of the key has it, or none has.
 use native.Mathlib.Omega.{arith}
-use Rattle.tables.specs.Ways.{past, other, looked_found, looked_none}
+use mathlib.Core.Path.{◌≡◌}
+use Prim.Native.Nat.{◌<◌, ◌≤◌}
+use lib.ListN.{length, get_or}
+use Rattle.std.specs.Prelude.{None}
+use Rattle.std.proofs.lemmas.Grind.{common_steps}
+use Rattle.std.proofs.lemmas.Option.{gets}
+use Rattle.tables.specs.Ways.{whole_found, whole_past, whole_other}
 use Rattle.tables.proofs.look.Goals as goal
 
-pub returns-then-at-n : goal.returns-then-at-n
-returns-then-at-n c =
-    let e = c.rank-at.ensures.0 in
-    (looked_none c.args.t.now c.args.n c.args.q _ c.requires.0 e (past c.args.t.now c.args.n c.args.q _ c.requires.0 e c.if-at-n.true), omega arith)
+pub returns-in_err-x : goal.returns-in_err-x
+returns-in_err-x c =
+    let l : length c.args.t.now ≤ c.rank.result = grind (arith, common_steps, gets) in
+    let r : c.from_residual.result ≡ None = grind (arith, common_steps) in
+    rw r (whole_past c.args.t.now c.args.q c.rank.result c.rank.ensures.0 l, tt)
 
 pub returns-then-x-q : goal.returns-then-x-q
 returns-then-x-q c =
-    (looked_found c.args.t.now c.args.n c.args.q _ c.requires.0 c.rank-at.ensures.0 c.if-at-n.false c.if-x-q.true, omega arith)
+    let e : c.in_ok-x.field-0.now ≡ get_or c.args.t.now c.rank.result 0 = grind (arith, common_steps, gets) in
+    let l : c.rank.result < length c.args.t.now = grind (arith, common_steps, gets) in
+    (rw e (whole_found c.args.t.now c.args.q c.rank.result c.rank.ensures.0 l (omega arith)), omega arith)
 
-pub returns : goal.returns
-returns c =
-    let e = c.rank-at.ensures.0 in
-    (looked_none c.args.t.now c.args.n c.args.q _ c.requires.0 e (other c.args.t.now c.args.n c.args.q _ c.requires.0 e c.if-at-n.false c.if-x-q.false), omega arith)
+pub returns-else-x-q : goal.returns-else-x-q
+returns-else-x-q c =
+    let e : c.in_ok-x.field-0.now ≡ get_or c.args.t.now c.rank.result 0 = grind (arith, common_steps, gets) in
+    (whole_other c.args.t.now c.args.q c.rank.result c.rank.ensures.0 (λ h. c.if-x-q.false (omega arith)), tt)

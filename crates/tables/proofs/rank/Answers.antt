@@ -1,26 +1,17 @@
--- Halving: the place stays between the two ends.
-use Prim.Native.Nat.{◌-◌, ◌+◌, ◌/◌}
-use mathlib.Core.Path.{◌≡◌}
-use native.Mathlib.Omega.{arith}
-use lib.ListN.{length, take}
-use lib.Seq.{length-take-le}
-use Rattle.tables.specs.Table.{rank_le, upper_half, lower_half}
+-- The keys below q come first, so the place where they end is theirs.
+use Rattle.std.proofs.Common.{ℕ, ◌/◌, List, ltb, rules, arith, ltb-true, ltb-false, lt-ltb}
+use Rattle.std.proofs.lemmas.List.Sorted.{IsPartitionPoint-from_clause}
+use Rattle.std.specs.List.Sorted.{IsPartitionedBy}
+use Rattle.tables.specs.Table.{Rising, rising_below, rank_point}
 use Rattle.tables.proofs.rank.Goals as goal
 
-pub loop-lo-init : goal.loop-lo-init
-loop-lo-init c =
-    let w : length (take c.args.n c.args.t.now) ≡ c.args.n = length-take-le c.args.n c.args.t.now c.requires.0 in
-    (omega arith, record { order = omega arith; within = omega arith; low = omega arith; high = omega (arith, rank_le c.args.q (take c.args.n c.args.t.now)) })
-
-pub loop-lo-preserved-then-t-mid : goal.loop-lo-preserved-then-t-mid
-loop-lo-preserved-then-t-mid c =
-    let m = c.loop-lo.lo + (c.loop-lo.hi - c.loop-lo.lo) / 2 in
-    (omega arith, upper_half c.args.q c.args.t.now c.args.n c.loop-lo.lo c.loop-lo.hi m c.requires.0 c.loop-lo.invariant.1 (omega arith) (omega arith) c.requires.1 (omega arith))
-
-pub loop-lo-preserved : goal.loop-lo-preserved
-loop-lo-preserved c =
-    let m = c.loop-lo.lo + (c.loop-lo.hi - c.loop-lo.lo) / 2 in
-    (omega arith, lower_half c.args.q c.args.t.now c.args.n c.loop-lo.lo c.loop-lo.hi m c.requires.0 c.loop-lo.invariant.1 (omega arith) (omega arith) (omega arith))
+split : (q : ℕ) (xs : List ℕ) → Rising xs → IsPartitionedBy (λ y. ltb (y / 256) q) xs
+split q xs r i j d h l e = lt-ltb _ _ (rising_below q xs r d i j h l (ltb-true _ _ e))
 
 pub returns : goal.returns
-returns c = omega arith
+returns c =
+    let p = IsPartitionPoint-from_clause (λ y. ltb (y / 256) c.args.q) c.args.t.now c.partition_point.result c.partition_point.ensures.partitioned (split c.args.q c.args.t.now c.requires) (λ a r f' k. search rules) in (
+      rank_point c.args.q c.args.t.now c.requires c.partition_point.result c.partition_point.ensures.bound
+          (λ i h. ltb-true _ _ (p.0 i 0 (omega arith) h)) (λ i h l. ltb-false _ _ (p.1 i 0 h l)),
+      c.partition_point.ensures.bound,
+    )

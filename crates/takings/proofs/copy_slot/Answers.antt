@@ -1,18 +1,14 @@
--- The front is the copy so far.
-use mathlib.Core.Path.{◌≡◌, refl}
-use native.Mathlib.Omega.{arith}
-use lib.ListN.{length-set}
-use Rattle.takings.specs.Moves.{copy_none, copy_more}
+-- The front is the slot, and what stands behind it stays.
+use Rattle.std.proofs.Common.{◌≡◌, ◌+◌, ◌-◌, ◌++◌, ap, arith, length-take, length-drop, take, drop}
+use Rattle.rules.specs.Image.{part}
+use Rattle.takings.specs.Moves.{copied}
 use Rattle.takings.proofs.copy_slot.Goals as goal
 
-pub loop-j-init : goal.loop-j-init
-loop-j-init c = (omega arith, (refl, copy_none _ _ _))
-
-pub loop-j-preserved : goal.loop-j-preserved
-loop-j-preserved c =
-    (omega arith, (simp length-set c.loop-j.invariant.1.0, rw c.loop-j.invariant.1.1 (copy_more c.args.pool.now c.args.a c.loop-j.j c.args.out.now (omega arith) (omega arith))))
+pub copy_from_slice-requires : goal.copy_from_slice-requires
+copy_from_slice-requires c = simp (length-take, length-drop) (omega arith)
 
 pub returns : goal.returns
+unfolding copied part
 returns c =
-    let e : c.loop-j.j ≡ 2128 = omega arith in
-    rw e at c.loop-j.invariant.1.1
+    let e : c.args.a + 2128 - c.args.a ≡ 2128 = omega arith in
+    rw c.copy_from_slice.ensures.after (ap (λ n. take n (drop c.args.a c.args.pool.now) ++ drop 2128 c.args.out.now) e)

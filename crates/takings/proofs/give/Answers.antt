@@ -3,4 +3,4 @@ use Rattle.takings.specs.Take.{popped_behind}
 use Rattle.takings.proofs.give.Goals as goal
 
 pub returns : goal.returns
-returns c = (popped_behind c.args.j _ _ _ c.clear_slot.ensures c.pop.ensures, c.copy_slot.ensures)
+returns c = (popped_behind _ _ _ _ c.clear_slot.ensures c.pop.ensures, c.copy_slot.ensures)

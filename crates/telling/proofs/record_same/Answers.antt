@@ -1,29 +1,32 @@
-use Rattle.sheets.specs.Form.{limits_of}
-use lib.ListN.{take}
+use Rattle.limits.specs.Limits.{limits_of}
+use Rattle.refusals.specs.Numbers.{passed_on}
 use Rattle.telling.specs.Stays.{merged_sturdy, sturdy_orderly}
 use Rattle.telling.specs.Ways.{same_full, same_full_2, same_merged}
 use Rattle.telling.proofs.record_same.Goals as goal
 
-pub enter_term-requires-in-At : goal.enter_term-requires-in-At
-enter_term-requires-in-At c =
-    let g = rw c.in-At.is at c.enter_term.ensures.enter_good in
-    (g.0.1.1, (c.requires.1.1.0, g.1))
+pub returns-in_err-a-clause-recorded : goal.returns-in_err-a-clause-recorded
+returns-in_err-a-clause-recorded c =
+    let e = rw c.in_err-a.ensures.ok_part at c.enter_term.ensures.enter in
+    rw (passed_on _ _ c.from_residual.ensures.1) (same_full c.args.book.now c.args.text.now c.args.at (limits_of c.args.limits) c.args.env.now c.args.w.now c.requires.1.0 c.in_err-a.field-0.0 c.enter_term.new.w e)
+
+pub returns-in_err-b-clause-recorded : goal.returns-in_err-b-clause-recorded
+returns-in_err-b-clause-recorded c =
+    let e = rw c.in_ok-a.ensures.ok_part at c.enter_term.ensures.enter in
+    let g = rw c.in_err-b.ensures.ok_part at c.enter_term-2.ensures.enter in
+    rw (passed_on _ _ c.from_residual-in_err-b.ensures.1) (same_full_2 c.args.book.now c.args.text.now c.args.at (limits_of c.args.limits) c.args.env.now c.args.w.now c.requires.1.0 c.in_ok-a.a c.in_ok-a.e _ e c.in_err-b.field-0.0 c.enter_term-2.new.w g)
 
 pub merge-requires : goal.merge-requires
 merge-requires c =
-    let h = rw c.in-At-enter_term.is at c.enter_term-in-At.ensures.enter_good in
-    let g = rw c.in-At.is at c.enter_term.ensures.enter_good in
-    (h.1.formed, (sturdy_orderly _ _ h.1, (g.0.0, h.0.0)))
+    let s = c.enter_term-2.ensures.sturdy in
+    let e = rw c.in_ok-a.ensures.ok_part at c.enter_term.ensures.enter_good in
+    let g = rw c.in_ok-b.ensures.ok_part at c.enter_term-2.ensures.enter_good in
+    (s.formed, (sturdy_orderly _ _ s, (e.0, g.0)))
 
-pub returns-in-Full : goal.returns-in-Full
-returns-in-Full c =
-    record { sturdy = c.enter_term.ensures.enter_good.1; recorded = same_full c.args.book.now c.args.text.now c.args.at (limits_of c.args.le c.args.lk c.args.lf) (take c.args.ne c.args.env.now) c.args.w.now c.requires.1.0 _ (rw c.in-Full.is at c.enter_term.ensures.enter) }
+pub returns-clause-sturdy : goal.returns-clause-sturdy
+returns-clause-sturdy c = merged_sturdy (limits_of c.args.limits) c.in_ok-a.a c.in_ok-b.b _ _ c.enter_term-2.ensures.sturdy c.merge.ensures
 
-pub returns-in-Full-enter_term : goal.returns-in-Full-enter_term
-returns-in-Full-enter_term c =
-    record { sturdy = c.enter_term-in-At.ensures.enter_good.1; recorded = same_full_2 c.args.book.now c.args.text.now c.args.at (limits_of c.args.le c.args.lk c.args.lf) (take c.args.ne c.args.env.now) c.args.w.now c.requires.1.0 c.in-At.a c.in-At.e _ (rw c.in-At.is at c.enter_term.ensures.enter) _ (rw c.in-Full-enter_term.is at c.enter_term-in-At.ensures.enter) }
-
-pub returns-in-At-enter_term : goal.returns-in-At-enter_term
-returns-in-At-enter_term c =
-    let h = rw c.in-At-enter_term.is at c.enter_term-in-At.ensures.enter_good in
-    record { sturdy = merged_sturdy (limits_of c.args.le c.args.lk c.args.lf) c.in-At.a c.in-At-enter_term.b _ _ h.1 c.merge.ensures; recorded = same_merged c.args.book.now c.args.text.now c.args.at (limits_of c.args.le c.args.lk c.args.lf) (take c.args.ne c.args.env.now) c.args.w.now c.requires.1.0 c.in-At.a c.in-At.e _ (rw c.in-At.is at c.enter_term.ensures.enter) c.in-At-enter_term.b c.in-At-enter_term.g _ _ (rw c.in-At-enter_term.is at c.enter_term-in-At.ensures.enter) c.merge.ensures }
+pub returns-clause-recorded : goal.returns-clause-recorded
+returns-clause-recorded c =
+    let e = rw c.in_ok-a.ensures.ok_part at c.enter_term.ensures.enter in
+    let g = rw c.in_ok-b.ensures.ok_part at c.enter_term-2.ensures.enter in
+    same_merged c.args.book.now c.args.text.now c.args.at (limits_of c.args.limits) c.args.env.now c.args.w.now c.requires.1.0 c.in_ok-a.a c.in_ok-a.e _ e c.in_ok-b.b _ _ _ g c.merge.ensures tt

@@ -1,10 +1,11 @@
--- By the two cases of the number.
-use Rattle.terms.specs.Head.{leaf_of}
-use mathlib.Core.Path.{sym, ap}
+use Rattle.rules.specs.Reading.{giving}
+use Rattle.refusals.specs.Numbers.{passed_on}
 use Rattle.terms.proofs.leaf.Goals as goal
 
-pub returns-in-Is : goal.returns-in-Is
-returns-in-Is c = ap leaf_of (sym c.in-Is.is)
+pub returns-in_err-e : goal.returns-in_err-e
+unfolding giving
+returns-in_err-e c = rw (passed_on _ _ c.from_residual.ensures.1, ← c.in_err-e.ensures)
 
-pub returns-in-Fault : goal.returns-in-Fault
-returns-in-Fault c = ap leaf_of (sym c.in-Fault.is)
+pub returns : goal.returns
+unfolding giving
+returns c = rw (← c.in_ok-e.ensures)

@@ -1,40 +1,31 @@
 -- One law for each kind.
-use Rattle.terms.specs.Head.{headed, leaf_of, args_at, term_var, term_con, term_app, term_fault, term_unknown}
-use Rattle.rules.specs.Reading.{number, declared}
-use Rattle.numbers.specs.Answers.{value, value_is, value_fault}
+use Rattle.std.proofs.Common.{◌∙◌, arith}
+use Rattle.rules.specs.Reading.{and_then}
 use Rattle.texts.specs.Names.{names_in}
-use mathlib.Core.Path.{sym, ap, ◌∙◌}
+use Rattle.refusals.specs.Numbers.{passed_on}
+use Rattle.terms.specs.Head.{term_fault, term_var, term_con, term_app, term_unknown}
 use Rattle.terms.proofs.term_head.Goals as goal
 
-pub returns-then-kind-eq0 : goal.returns-then-kind-eq0
-returns-then-kind-eq0 c =
-    let n = names_in c.args.book.now in
-    let d = value_is (number c.args.book.now c.args.at) _ _ (sym c.in-Is.is ∙ c.read_number.ensures) in
-    term_var c.args.deeper n c.args.v c.args.book.now c.args.at _ _ d c.if-kind-eq0.true
-    ∙ ap (λ h. headed h (args_at c.args.deeper n c.args.v c.args.book.now)) (sym (c.leaf.ensures ∙ ap leaf_of c.read_declared.ensures))
+pub returns-in_err-kind : goal.returns-in_err-kind
+unfolding and_then
+returns-in_err-kind c =
+    rw (passed_on _ _ c.from_residual.ensures.1)
+    (term_fault c.args.deeper (names_in c.args.book.now) c.args.v c.args.book.now c.args.at _ _ c.in_err-kind.ensures)
 
-pub returns-then-kind-eq1 : goal.returns-then-kind-eq1
-returns-then-kind-eq1 c =
-    let n = names_in c.args.book.now in
-    let d = value_is (number c.args.book.now c.args.at) _ _ (sym c.in-Is.is ∙ c.read_number.ensures) in
-    let k = ap (λ k. value (declared k c.args.book.now c.in-Is.e)) c.constants.ensures.0 in
-    term_con c.args.deeper n c.args.v c.args.book.now c.args.at _ _ d c.if-kind-eq1.true
-    ∙ ap (λ h. headed h (args_at c.args.deeper n c.args.v c.args.book.now)) (sym (c.leaf-then-kind-eq1.ensures ∙ ap leaf_of (c.read_declared-then-kind-eq1.ensures ∙ k)))
+pub returns-in-0 : goal.returns-in-0
+returns-in-0 c = rw c.leaf.ensures (term_var c.args.deeper (names_in c.args.book.now) c.args.v c.args.book.now c.args.at _ _ c.in_ok-kind.ensures c.in-0.is)
 
-pub returns-then-kind-eq2 : goal.returns-then-kind-eq2
-returns-then-kind-eq2 c =
-    let n = names_in c.args.book.now in
-    let d = value_is (number c.args.book.now c.args.at) _ _ (sym c.in-Is.is ∙ c.read_number.ensures) in
-    term_app c.args.deeper n c.args.v c.args.book.now c.args.at _ _ d c.if-kind-eq2.true ∙ c.application.ensures
+pub returns-in-1 : goal.returns-in-1
+returns-in-1 c =
+    rw (c.leaf-in-1.ensures, c.constants.ensures.0)
+    (term_con c.args.deeper (names_in c.args.book.now) c.args.v c.args.book.now c.args.at _ _ c.in_ok-kind.ensures c.in-1.is)
 
-pub returns-in-Fault : goal.returns-in-Fault
-returns-in-Fault c =
-    let n = names_in c.args.book.now in
-    let d = value_fault (number c.args.book.now c.args.at) _ _ (sym c.in-Fault.is ∙ c.read_number.ensures) in
-    term_fault c.args.deeper n c.args.v c.args.book.now c.args.at _ _ d
+pub returns-in-2 : goal.returns-in-2
+returns-in-2 c =
+    term_app c.args.deeper (names_in c.args.book.now) c.args.v c.args.book.now c.args.at _ _ c.in_ok-kind.ensures c.in-2.is ∙ c.application.ensures
 
-pub returns-else-kind-eq2 : goal.returns-else-kind-eq2
-returns-else-kind-eq2 c =
-    let n = names_in c.args.book.now in
-    let d = value_is (number c.args.book.now c.args.at) _ _ (sym c.in-Is.is ∙ c.read_number.ensures) in
-    term_unknown c.args.deeper n c.args.v c.args.book.now c.args.at _ _ d c.if-kind-eq0.false c.if-kind-eq1.false c.if-kind-eq2.false
+pub returns-in_default : goal.returns-in_default
+unfolding and_then
+returns-in_default c =
+    rw c.refuse.ensures
+    (term_unknown c.args.deeper (names_in c.args.book.now) c.args.v c.args.book.now c.args.at _ _ c.in_ok-kind.ensures (λ q. omega arith) (λ q. omega arith) (λ q. omega arith))

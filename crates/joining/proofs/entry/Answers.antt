@@ -1,8 +1,0 @@
--- Behind the last entry `get_or` gives its default.
-use lib.ListN.{get_or-eq_default}
-use native.Mathlib.Omega.{arith}
-use mathlib.Core.Path.{sym}
-use Rattle.joining.proofs.entry.Goals as goal
-
-pub returns-else-i-t : goal.returns-else-i-t
-returns-else-i-t c = sym (get_or-eq_default c.args.t.now 0 {n = c.args.i} (omega arith))

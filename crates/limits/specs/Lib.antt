@@ -1,0 +1,2 @@
+-- Limits as the definitions have them.
+pub mod Limits

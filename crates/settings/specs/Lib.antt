@@ -1,0 +1,2 @@
+-- What the numbers of settings stand for.
+pub mod Codes

@@ -1,0 +1,2 @@
+-- The tables of a working form.
+pub mod Tables
