@@ -200,7 +200,7 @@ pub fn admitted(
 {
     let mut p = at;
     let mut n = size;
-    for i in 0..count {
+    for _ in 0..count {
         let Some((e, more)) = ask(book, text, p, b, n, env, f) else {
             return false;
         };

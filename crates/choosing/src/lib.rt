@@ -2,15 +2,15 @@
 // the indices 0, 0, .. visits the choices of the definition, each once and in its order.
 #![tactic(auto)]
 
-ghost use Rattle.std.specs.Prelude.{◌≡◌, ◌≤◌, ◌<◌, length, take};
+ghost use Rattle.std.specs.Prelude.{◌≡◌, ◌≤◌, length, take};
 ghost use Rattle.choosing.specs.Choosing.{chosen, after, perhaps, Below};
 
 // The indices after these, with a carry; false after the last. The first index is the fastest.
-pub fn advance(idx: &mut [usize], v: usize, nd: usize) -> bool
-    requires { (v ≤ length idx.old) × Below nd (take v idx.old) }
-    ensures { (after nd (take v idx.old) ≡ perhaps result (take v idx.new)) × Below nd (take v idx.new) }
+pub fn advance(idx: &mut [usize], nd: usize) -> bool
+    requires { Below nd idx.old }
+    ensures { (after nd idx.old ≡ perhaps result idx.new) × Below nd idx.new }
 {
-    for i in 0..v {
+    for i in 0..idx.len() {
         let x = idx[i] + 1;
         if x < nd {
             idx[i] = x;
@@ -22,11 +22,12 @@ pub fn advance(idx: &mut [usize], v: usize, nd: usize) -> bool
 }
 
 // The elements at the indices.
-pub fn choose(dom: &[u64], nd: usize, idx: &[usize], v: usize, env: &mut [u64])
-    requires { (nd ≤ length dom.now) × ((v ≤ length idx.now) × (Below nd (take v idx.now) × (v ≤ length env.old))) }
-    ensures { take v env.new ≡ chosen (take nd dom.now) (take v idx.now) }
+pub fn choose(dom: &[u64], idx: &[usize], env: &mut [u64])
+    requires { Below (length dom.now) idx.now × (length idx.now ≤ length env.old) }
+    ensures { take (length idx.now) env.new ≡ chosen dom.now idx.now }
 {
-    for i in 0..v {
+    // By index: what is written through `zip` over `iter_mut` is known through the iterator alone, and this needs no answer.
+    for i in 0..idx.len() {
         env[i] = dom[idx[i]];
     }
 }

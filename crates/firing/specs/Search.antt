@@ -1,7 +1,7 @@
 -- The search for the first choice that fires: the choices from the indices on have the whole's answer.
 use Rattle.std.specs.Prelude.{◌≡◌, refl, ℕ, zero, suc, ◌-◌, ◌≤◌, ◌<◌, Bool, true, false, length, get_or, take, replicate}
 use Rattle.std.proofs.Math.Path.{sym, ap}
-use Rattle.std.proofs.Common.{◌∙◌, subst, arith, length-take-le}
+use Rattle.std.proofs.Common.{◌∙◌, subst, arith}
 use Rattle.std.proofs.Math.Option.{Option, none, some}
 use mathlib.Core.List.{List, [], ◌∷◌}
 use Rattle.base.specs.Branch.{case_o}
@@ -52,32 +52,13 @@ pub zeros_below : (v n : ℕ) → (0 < v → 0 < n) → Below n (replicate v 0)
 zeros_below zero n h = tt
 zeros_below (suc v) n h = (h (omega arith), zeros_below v n (λ _. h (omega arith)))
 
--- ---- the same where the indices are the first of a longer list, and that the choices left grow fewer
-
-fewer : (v : ℕ) (d is js : List ℕ) → length is ≡ v → Below (length d) is → after (length d) is ≡ some js → length (onward v d js) < length (onward v d is)
+-- The choices left grow fewer.
+pub choices_fall : (v : ℕ) (d is js : List ℕ) → length is ≡ v → Below (length d) is → after (length d) is ≡ some js → length (onward v d js) < length (onward v d is)
 unfolding case_o
-fewer v d is js l b e =
+choices_fall v d is js l b e =
     let p : length (onward v d is) ≡ suc (length (onward v d js)) =
     ap (λ (cs : List (List ℕ)). length cs) (onward_next v d is l b) ∙ ap (λ (o : Option (List ℕ)). suc (length (case_o o (λ _. []) (onward v d)))) e in
     omega arith
-
-module _ (book text : Bytes) (at v : ℕ) (keys facts dom idx : List ℕ) (wide : v ≤ length idx) (b : Below (length dom) (take v idx)) where
-  width : length (take v idx) ≡ v
-  width = length-take-le v idx wide
-
-  pub choices_fall : (idx' : List ℕ) → after (length dom) (take v idx) ≡ some (take v idx') → length (onward v dom (take v idx')) < length (onward v dom (take v idx))
-  choices_fall idx' a = fewer v dom (take v idx) (take v idx') width b a
-
-  module _ (env : List ℕ) (e : take v env ≡ chosen dom (take v idx)) (so : Searching book text at v keys facts dom (take v idx)) where
-    pub step_found : Fires book text at env v keys facts dom true → (env' : List ℕ) → take v env' ≡ take v env → FirstFrom book text at v keys facts dom true env'
-    step_found = search_found book text at v keys facts dom (take v idx) env width b e so
-
-    pub step_next : Fires book text at env v keys facts dom false → (idx' : List ℕ) → after (length dom) (take v idx) ≡ some (take v idx')
-        → Searching book text at v keys facts dom (take v idx')
-    step_next f idx' a = search_next book text at v keys facts dom (take v idx) env width b e so f (take v idx') a
-
-    pub step_none : Fires book text at env v keys facts dom false → after (length dom) (take v idx) ≡ none → (env' : List ℕ) → FirstFrom book text at v keys facts dom false env'
-    step_none f a env' = search_none book text at v keys facts dom (take v idx) env width b e so f a env'
 
 -- ---- the indices that a search starts with
 

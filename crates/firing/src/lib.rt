@@ -27,7 +27,7 @@ pub fn literals_observed(
     ensures { AllObserved book.now text.now at n env.now t.now.keys.now t.now.facts.now t.now.domain.now result }
 {
     let mut p = at;
-    for i in 0..n {
+    for _ in 0..n {
         if !observed(book, text, p, env, t) {
             return false;
         }
@@ -130,7 +130,7 @@ pub fn head_observed(
     ensures head { IsHead book.now text.now at n env.old v t.now.keys.now t.now.facts.now t.now.domain.now result }
 {
     let mut p = at;
-    for i in 0..n {
+    for _ in 0..n {
         if disjunct_observed(book, text, p, env, v, t) {
             return true;
         }
@@ -166,15 +166,15 @@ pub fn first_from(
     requires octets { All (λ e. e < 256) t.now.domain.now }
     ensures { FirstFrom book.now text.now at v t.now.keys.now t.now.facts.now t.now.domain.now result env.new }
 {
-    let nd = t.domain.len();
-    let mut idx = [0usize; 4];
+    let mut room = [0usize; 4];
+    let idx = &mut room[..v];
     // A `loop`: a choice comes from the one before it, and `advance` says which is the last.
     loop {
-        choose(t.domain, nd, &idx, v, env);
+        choose(t.domain, idx, env);
         if fires(book, text, at, env, v, t) {
             return true;
         }
-        if !advance(&mut idx, v, nd) {
+        if !advance(idx, t.domain.len()) {
             return false;
         }
     }

@@ -3,13 +3,14 @@
 // become equal one stays, and their values are one more pair.
 #![tactic(auto)]
 
-ghost use Rattle.std.specs.Prelude.{◌≡◌, ◌+◌, ◌≤◌, ◌<◌, length, get_or, take, set};
+ghost use Rattle.std.specs.Prelude.{◌≡◌, ◌+◌, ◌≤◌, ◌<◌, length, take, set};
 ghost use Rattle.rules.specs.Image.{part};
 ghost use Rattle.rules.specs.Merge.{merge_depths};
 ghost use Rattle.renaming.specs.Order.{Sorted};
 ghost use Rattle.joining.specs.Leaf.{JoinedKeys, JoinedFacts};
 
 use filing::Ends;
+use lowering::depth;
 
 // The first n keys, and the pairs from top on; between them there is room for n more.
 pub fn join_keys(t: &mut [u64], n: usize, top: usize, s: u64, l: u64) -> Ends
@@ -32,13 +33,6 @@ pub fn join_facts(w: &mut [u64], at: usize, n: usize, spare: usize, s: u64, l: u
     filing::refact(&mut w[at..at + n])
 }
 
-// The entry at a place; behind the last, 0.
-fn entry(t: &[u64], i: u64) -> u64
-    ensures { result ≡ get_or t.now i 0 }
-{
-    t.get(i as usize).map_or(0, |x| *x)
-}
-
 // An entry put at a place, if there is such a place. By index, since nothing is known of a slice after its `get_mut`.
 fn set(t: &mut [u64], i: u64, v: u64)
     ensures { t.new ≡ set t.old i v }
@@ -52,7 +46,7 @@ fn set(t: &mut [u64], i: u64, v: u64)
 pub fn join_depths(t: &mut [u64], s: u64, l: u64)
     ensures { t.new ≡ merge_depths s l t.old }
 {
-    let low = entry(t, s).min(entry(t, l));
+    let low = depth(t, s).min(depth(t, l));
     set(t, s, low);
     set(t, l, 0);
 }

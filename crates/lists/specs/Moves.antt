@@ -1,8 +1,9 @@
 -- What a step does to the lists: the state whose image the pool is afterwards.
-use Rattle.std.specs.Prelude.{◌≡◌, Bool, true, false, not, List, [], ◌∷◌, ◌++◌, length, get_or, set}
+use Rattle.std.specs.Prelude.{◌≡◌, Bool, true, false, not, List, [], ◌∷◌, ◌++◌, length, get_or}
 use Rattle.std.proofs.Math.Path.{refl, ap, ap₂}
 use Rattle.std.proofs.Common.{sym, ◌∙◌, subst, arith, append-nil}
 use Prim.Native.Nat.{ℕ, ◌+◌, ◌*◌, ◌/◌, ◌%◌, ◌≤◌, ◌<◌}
+use borrow.Rule.Slice.PartMut.{put_mid}
 use Rattle.base.specs.Lists.{All, mem, keep, from}
 use Rattle.rules.specs.Reading.{Bytes, num}
 use Rattle.rules.specs.Sheet.{Limits}
@@ -81,14 +82,20 @@ shows_free lim s p sh = ap (λ (us : List ℕ). keep (λ i. not (mem i us)) (fro
 -- ---- the next number
 
 -- Four bytes of the front.
-abbrev with_next : ℕ → Bytes → Bytes
-with_next n p = set (set (set (set p 8 (n % 65536 % 256)) 9 (n % 65536 / 256 % 256)) 10 (n / 65536 % 256)) 11 (n / 65536 / 256 % 256)
-
-pub counts_on : (p : Bytes) (n : ℕ) → n ≡ next_of p → (p' : Bytes) → p' ≡ with_next (n + 1) p → CountedOn p p'
+pub counts_on : (p : Bytes) (n : ℕ) → n ≡ next_of p → (p' : Bytes) → p' ≡ put_mid 8 4 p (long (n + 1)) → CountedOn p p'
 unfolding pool_bytes pool_head pool_mark long word changed next_of num
 counts_on p n e p' o lim s h q =
     let m : n ≡ s.next = e ∙ ap next_of q ∙ omega arith in
-    o ∙ ap₂ (λ (k : ℕ) (l : Bytes). with_next (k + 1) l) m q
+    o ∙ ap₂ (λ (k : ℕ) (l : Bytes). put_mid 8 4 l (long (k + 1))) m q
+
+-- The four low bytes of a number, the lowest first.
+pub long_bytes : (n : ℕ) → (n % 256 ∷ n / 256 % 256 ∷ n / 65536 % 256 ∷ n / 16777216 % 256 ∷ []) ≡ long n
+unfolding long word
+long_bytes n =
+    let a : n % 256 ≡ n % 65536 % 256 = omega arith in
+    let b : n / 256 % 256 ≡ n % 65536 / 256 % 256 = omega arith in
+    let d : n / 16777216 % 256 ≡ n / 65536 / 256 % 256 = omega arith in
+    λ i. a i ∷ b i ∷ n / 65536 % 256 ∷ d i ∷ []
 
 -- ---- the ways out
 

@@ -61,12 +61,7 @@ fn count_on(pool: &mut [u8])
     ensures { CountedOn pool.old pool.new }
 {
     let next = next_number(pool) + 1;
-    let low = next % 65536;
-    let high = next / 65536;
-    pool[8] = (low % 256) as u8;
-    pool[9] = (low / 256 % 256) as u8;
-    pool[10] = (high % 256) as u8;
-    pool[11] = (high / 256 % 256) as u8;
+    pool[8..12].copy_from_slice(&next.to_le_bytes()[..4]);
 }
 
 // The first waiting slot goes to the back of the complete ones.

@@ -1,6 +1,6 @@
 -- The working form of a sheet: one list of numbers with five counts in front, then regions whose places follow from the limits:
 -- keys, room for pairs that wait to be merged, facts, depths, and for each element what it is now.
-use Rattle.std.specs.Prelude.{◌≡◌, ℕ, ◌+◌, ◌≤◌, List, map, length, get_or}
+use Rattle.std.specs.Prelude.{◌≡◌, ℕ, ◌≤◌, List, map, length, get_or}
 use Rattle.rules.specs.Sheet.{Sheet, Limits}
 use Rattle.rules.specs.Image.{part}
 pub use Rattle.limits.specs.Limits.{keys_at, facts_at, depths_at, history_at, form_size}

@@ -24,11 +24,7 @@ fn set_counts(w: &mut [u64], number: u64, place: u64, created: u64, keys: u64, f
     requires { 5 ≤ length w.old }
     ensures { w.new ≡ patched 0 (number ∷ place ∷ created ∷ keys ∷ facts ∷ []) w.old }
 {
-    w[0] = number;
-    w[1] = place;
-    w[2] = created;
-    w[3] = keys;
-    w[4] = facts;
+    w[..5].copy_from_slice(&[number, place, created, keys, facts]);
 }
 
 // Each element is itself.
@@ -80,7 +76,7 @@ fn load_table(slot: &[u8], from: usize, w: &mut [u64], at: usize, room: usize, n
     octets::load_words(slot, from, &mut w[at..e]);
 }
 
-// The same, a byte for each.
+// The same, a byte for each. A function of its own: one that took the reader would need clauses longer than both.
 fn load_depths(slot: &[u8], from: usize, w: &mut [u64], at: usize, room: usize, n: usize)
     requires { (from + n ≤ length slot.now) × ((n ≤ room) × (at + room ≤ length w.old)) }
     ensures { Region at room n (take n (drop from slot.now)) w.old w.new }

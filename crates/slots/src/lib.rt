@@ -11,27 +11,15 @@ ghost use Rattle.slots.specs.Store.{head_bytes, table_bytes, depth_bytes, view_b
 
 use limits::Limits;
 
-// The first sixteen bytes.
+// The first sixteen bytes: the two low bytes of each number, the lowest first, and zeros.
 fn store_head(s: &mut [u8], number: u64, place: u64, created: u64, keys: u64, facts: u64)
     requires { 16 ≤ length s.old }
     ensures { s.new ≡ patched 0 (head_bytes number place created keys facts) s.old }
 {
-    s[0] = (number % 256) as u8;
-    s[1] = (number / 256 % 256) as u8;
-    s[2] = (place % 256) as u8;
-    s[3] = (place / 256 % 256) as u8;
-    s[4] = (created % 256) as u8;
-    s[5] = (created / 256 % 256) as u8;
-    s[6] = (keys % 256) as u8;
-    s[7] = (keys / 256 % 256) as u8;
-    s[8] = (facts % 256) as u8;
-    s[9] = (facts / 256 % 256) as u8;
-    s[10] = 0;
-    s[11] = 0;
-    s[12] = 0;
-    s[13] = 0;
-    s[14] = 0;
-    s[15] = 0;
+    for (i, x) in [number, place, created, keys, facts].iter().enumerate() {
+        s[2 * i..2 * i + 2].copy_from_slice(&x.to_le_bytes()[..2]);
+    }
+    s[10..16].fill(0);
 }
 
 // The first n entries of the region of w that starts at a place, with zeros for the rest of it.
@@ -43,7 +31,7 @@ fn store_table(w: &[u64], at: usize, room: usize, n: usize, slot: &mut [u8], to:
     octets::store_words(slot, to, room, &w[at..e]);
 }
 
-// The same, a byte for each.
+// The same, a byte for each. A function of its own: one that took the writer would need clauses longer than both.
 fn store_depths(w: &[u64], at: usize, room: usize, n: usize, slot: &mut [u8], to: usize)
     requires { (n ≤ room) × ((at + room ≤ length w.now) × (to + room ≤ length slot.old)) }
     ensures { slot.new ≡ patched to (depth_bytes room (part at n w.now)) slot.old }

@@ -5,9 +5,9 @@ use Rattle.bound.specs.Bounds.{bound_is}
 use Rattle.bound.specs.Admitted.{AdmittedLeft}
 use Rattle.bound.proofs.admitted.Given as goal
 
-abbrev pub invariant-loop-i : goal.invariant-loop-i
-invariant-loop-i l = record {
+abbrev pub invariant-loop : goal.invariant-loop
+invariant-loop l = record {
   within : l.p ≤ length l.text;
-  counted : l.n ≤ l.size + l.i;
-  left : AdmittedLeft l.book l.text l.at l.count (bound_is l.b) l.size (limits_of l.f.limits) l.env l.f.w.now l.f.tables.domain.now l.i l.p l.n;
+  counted : l.n ≤ l.size + l.counter;
+  left : AdmittedLeft l.book l.text l.at l.count (bound_is l.b) l.size (limits_of l.f.limits) l.env l.f.w.now l.f.tables.domain.now l.counter l.p l.n;
 }

@@ -1,6 +1,5 @@
-use lib.ListN.{take}
 use Rattle.choosing.specs.Steps.{Chooses}
 use Rattle.choosing.proofs.choose.Given as goal
 
 abbrev pub invariant-loop-i : goal.invariant-loop-i
-invariant-loop-i l = Chooses (take l.nd l.dom) l.idx l.i l.env
+invariant-loop-i l = Chooses l.dom l.idx l.i l.env

@@ -1,5 +1,5 @@
 use mathlib.Core.Path.{◌≡◌}
-use lib.ListN.{length, take}
+use lib.ListN.{length}
 use Rattle.choosing.specs.Choosing.{Below, onward}
 use Rattle.firing.specs.Search.{Searching}
 use Rattle.firing.proofs.first_from.Given as goal
@@ -7,10 +7,10 @@ use Rattle.firing.proofs.first_from.Given as goal
 abbrev pub invariant-loop-idx : goal.invariant-loop-idx
 invariant-loop-idx l = record {
   env_length : length l.env ≡ length l.initial.env;
-  four : length l.idx ≡ 4;
-  below : Below (length l.t.domain.now) (take l.v l.idx);
-  searching : Searching l.book l.text l.at l.v l.t.keys.now l.t.facts.now l.t.domain.now (take l.v l.idx);
+  width : length l.idx ≡ l.v;
+  below : Below (length l.t.domain.now) l.idx;
+  searching : Searching l.book l.text l.at l.v l.t.keys.now l.t.facts.now l.t.domain.now l.idx;
 }
 
 abbrev pub decreases-loop-idx : goal.decreases-loop-idx
-decreases-loop-idx l = length (onward l.v l.t.domain.now (take l.v l.idx))
+decreases-loop-idx l = length (onward l.v l.t.domain.now l.idx)

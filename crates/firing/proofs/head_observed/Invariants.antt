@@ -4,10 +4,10 @@ use lib.ListN.{length, take}
 use Rattle.firing.specs.Loops.{HeadLeft}
 use Rattle.firing.proofs.head_observed.Given as goal
 
-abbrev pub invariant-loop-i : goal.invariant-loop-i
-invariant-loop-i l = record {
+abbrev pub invariant-loop : goal.invariant-loop
+invariant-loop l = record {
   within : l.p ≤ length l.text;
   as_long : length l.env ≡ length l.initial.env;
   chosen : take l.v l.env ≡ take l.v l.initial.env;
-  left : HeadLeft l.book l.text l.at l.n l.initial.env l.v l.t.keys.now l.t.facts.now l.t.domain.now l.i l.p;
+  left : HeadLeft l.book l.text l.at l.n l.initial.env l.v l.t.keys.now l.t.facts.now l.t.domain.now l.counter l.p;
 }

@@ -3,5 +3,5 @@ use lib.ListN.{length}
 use Rattle.firing.specs.Loops.{LiteralsLeft}
 use Rattle.firing.proofs.literals_observed.Given as goal
 
-abbrev pub invariant-loop-i : goal.invariant-loop-i
-invariant-loop-i l = record { within : l.p ≤ length l.text; left : LiteralsLeft l.book l.text l.at l.n l.env l.t.keys.now l.t.facts.now l.t.domain.now l.i l.p }
+abbrev pub invariant-loop : goal.invariant-loop
+invariant-loop l = record { within : l.p ≤ length l.text; left : LiteralsLeft l.book l.text l.at l.n l.env l.t.keys.now l.t.facts.now l.t.domain.now l.counter l.p }

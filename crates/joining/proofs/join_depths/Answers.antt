@@ -10,6 +10,6 @@ use Rattle.joining.proofs.join_depths.Goals as goal
 pub returns : goal.returns
 unfolding merge_depths
 returns c =
-    let low = c.min-low.ensures ∙ ap₂ min c.entry.ensures c.entry-2.ensures in
+    let low = c.min-low.ensures ∙ ap₂ min c.depth.ensures c.depth-2.ensures in
     c.set-2.ensures
     ∙ ap (λ (t : List ℕ). set t c.args.l 0) (c.set.ensures ∙ ap (set c.args.t.now c.args.s) low)

@@ -1,7 +1,10 @@
 -- Four bytes written.
-use mathlib.Core.Path.{refl}
-use Rattle.lists.specs.Moves.{counts_on}
+use Rattle.std.proofs.Common.{◌+◌, ◌∙◌, ap, take}
+use borrow.Rule.Slice.PartMut.{put_mid}
+use Rattle.lists.specs.Moves.{counts_on, long_bytes}
 use Rattle.lists.proofs.count_on.Goals as goal
 
 pub returns : goal.returns
-returns c = counts_on c.args.pool.now _ c.next_number-next.ensures.0 _ refl
+returns c =
+    counts_on c.args.pool.now _ c.next_number-next.ensures.0 _
+    (ap (put_mid 8 4 c.args.pool.now) (c.copy_from_slice.ensures.after ∙ ap (take 4) c.to_le_bytes.ensures ∙ long_bytes (c.next_number-next.result + 1)))

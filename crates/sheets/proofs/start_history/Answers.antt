@@ -1,10 +1,9 @@
 use Prim.Native.Nat.{◌+◌, ◌-◌}
-use mathlib.Core.Path.{◌≡◌, ap, ◌∙◌}
+use mathlib.Core.Path.{ap, ◌∙◌}
 use native.Mathlib.Omega.{arith}
-use lib.ListN.{length}
 use borrow.Rule.Slice.PartMut.{mid_len}
 use Rattle.base.specs.Lists.{from}
-use Rattle.sheets.specs.Load.{from_length, region_front}
+use Rattle.sheets.specs.Load.{region_front}
 use Rattle.sheets.proofs.start_history.Goals as goal
 
 pub returns : goal.returns

@@ -1,60 +1,30 @@
-use native.Mathlib.Omega.{arith}
-use lib.ListN.{length-set}
-use lib.Seq.{sets-eq}
-use Rattle.rules.specs.Image.{word}
-use Rattle.octets.specs.Patch.{patched}
+-- The numbers that were passed stand as one patch, two bytes for each, and zeros fill the rest.
+use Rattle.std.proofs.Common.{◌≡◌, ℕ, List, [], ◌∷◌, ◌*◌, ◌∙◌, refl, ap, sym, arith, get_or, length, take}
+use Rattle.base.specs.Lists.{flat}
+use Rattle.rules.specs.Image.{word, padded}
+use Rattle.octets.specs.Patch.{patched_none, patched_lent, patched_more, patched_table}
 use Rattle.slots.specs.Store.{head_bytes}
 use Rattle.slots.proofs.store_head.Goals as goal
 
-pub bounds-s-1 : goal.bounds-s-1
-bounds-s-1 c = simp length-set (omega arith)
+word_size : (x : ℕ) → length (word x) ≡ 2
+unfolding word
+word_size x = refl
 
-pub bounds-s-2 : goal.bounds-s-2
-bounds-s-2 c = simp length-set (omega arith)
+pub loop-i-init : goal.loop-i-init
+unfolding flat
+loop-i-init c = sym (patched_none 0 c.args.s.now)
 
-pub bounds-s-3 : goal.bounds-s-3
-bounds-s-3 c = simp length-set (omega arith)
-
-pub bounds-s-4 : goal.bounds-s-4
-bounds-s-4 c = simp length-set (omega arith)
-
-pub bounds-s-5 : goal.bounds-s-5
-bounds-s-5 c = simp length-set (omega arith)
-
-pub bounds-s-6 : goal.bounds-s-6
-bounds-s-6 c = simp length-set (omega arith)
-
-pub bounds-s-7 : goal.bounds-s-7
-bounds-s-7 c = simp length-set (omega arith)
-
-pub bounds-s-8 : goal.bounds-s-8
-bounds-s-8 c = simp length-set (omega arith)
-
-pub bounds-s-9 : goal.bounds-s-9
-bounds-s-9 c = simp length-set (omega arith)
-
-pub bounds-s-10 : goal.bounds-s-10
-bounds-s-10 c = simp length-set (omega arith)
-
-pub bounds-s-11 : goal.bounds-s-11
-bounds-s-11 c = simp length-set (omega arith)
-
-pub bounds-s-12 : goal.bounds-s-12
-bounds-s-12 c = simp length-set (omega arith)
-
-pub bounds-s-13 : goal.bounds-s-13
-bounds-s-13 c = simp length-set (omega arith)
-
-pub bounds-s-14 : goal.bounds-s-14
-bounds-s-14 c = simp length-set (omega arith)
-
-pub bounds-s-15 : goal.bounds-s-15
-bounds-s-15 c = simp length-set (omega arith)
-
-pub shape_of-s : goal.shape_of-s
-shape_of-s c = simp length-set
+pub loop-i-preserved : goal.loop-i-preserved
+unfolding word
+loop-i-preserved c =
+    let xs : List ℕ = c.args.number ∷ c.args.place ∷ c.args.created ∷ c.args.keys ∷ c.args.facts ∷ [] in
+    let i = c.loop-i.i in
+    patched_lent (2 * i) 2 c.copy_from_slice.new.self (word (get_or xs i 0)) c.loop-i.s (omega arith) c.copy_from_slice.ensures.len (c.copy_from_slice.ensures.after ∙ ap (take 2) c.to_le_bytes.ensures)
+    ∙ rw c.loop-i.invariant (patched_more 2 word word_size 0 xs c.args.s.now i (2 * i) (omega arith) (omega arith) (omega arith))
 
 pub returns : goal.returns
-unfolding patched head_bytes word
+unfolding head_bytes word padded flat
 returns c =
-    sets-eq (head_bytes c.args.number c.args.place c.args.created c.args.keys c.args.facts) c.args.s.now 0 c.requires
+    let xs : List ℕ = c.args.number ∷ c.args.place ∷ c.args.created ∷ c.args.keys ∷ c.args.facts ∷ [] in
+    patched_table 2 word word_size 0 16 10 6 c.loop-i.i xs c.args.s.now c.loop-i.s c.fill.new.self
+    (omega arith) (omega arith) (omega arith) c.loop-i.invariant (omega arith) (omega arith) (c.fill.ensures.after (λ y e. e))
