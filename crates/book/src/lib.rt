@@ -8,7 +8,9 @@ ghost use Rattle.texts.specs.Names.{names_in};
 ghost use Rattle.texts.specs.Heads.{front_at};
 ghost use Rattle.numbers.specs.Answers.{checked, checking, reading};
 
-use counts::{arity_of, function_witnesses, functions, relation_arity, relations, witnesses_of};
+use counts::{
+    WitnessKind, arity_of, function_witnesses, functions, relation_arity, relations, witnesses_of,
+};
 use numbers::{
     Checked, Value, check_many, check_ranges, check_variables, read_declared, read_mark,
     read_number, read_ranged, read_version, refuse,
@@ -40,10 +42,10 @@ fn check_literals(book: &[u8], v: u64, count: u64, at: usize) -> Checked
 fn check_origin(book: &[u8], v: u64, at: usize) -> Checked
     ensures { checking result ≡ checked (origin_at (names_in book.now) v book.now at) }
 {
-    let (kind, a) = read_number(book, at)?;
-    if kind > 1 {
+    let (number, a) = read_number(book, at)?;
+    let Some(kind) = WitnessKind::of_number(number) else {
         return refuse(Refusal::UnknownKind, at);
-    }
+    };
     let (w, b) = read_declared(book, witnesses_of(book, kind), a)?;
     let (k, c) = read_number(book, b)?;
     if k != arity_of(book, kind, w) {

@@ -1,1 +1,2 @@
--- The readers are specified by `names_in` and the places beside it (texts, Names): nothing is defined here.
+-- The readers are specified by `names_in` and the places beside it (texts, Names); here are the numbers of witnesses' kinds.
+pub mod Kinds

@@ -2,9 +2,10 @@
 // Total: the answers are those of `names_in`, which are the names of the book if it is accepted (texts, `accepted`).
 #![tactic(auto, using(texts::specs::Names::nums_at, texts::specs::Names::nums_past, texts::specs::Names::nums_length), unfolding(texts::specs::Names::names_in, texts::specs::Names::relations_at, texts::specs::Names::witnesses_at, texts::specs::Names::count_at, texts::specs::Names::sequents_at))]
 
-ghost use Rattle.std.specs.Prelude.{◌≡◌, ◌<◌, length, get_or};
+ghost use Rattle.std.specs.Prelude.{◌≡◌, ◌≤◌, ◌<◌, length, get_or, MatchOption};
 ghost use Rattle.rules.specs.Reading.{num, witnesses, witness_arity};
 ghost use Rattle.texts.specs.Names.{nums, names_in, relations_at, witnesses_at, count_at, sequents_at};
+ghost use Rattle.counts.specs.Kinds.{code_of_kind};
 
 use words::num16;
 
@@ -99,19 +100,41 @@ pub fn sequents_start(book: &[u8]) -> usize
     (count_at(book) + 2) as usize
 }
 
-// How many witnesses of a kind (0 constant, else function) are declared, and the arity of one.
-pub fn witnesses_of(book: &[u8], kind: u64) -> u64
-    ensures { (result ≡ witnesses (names_in book.now) kind) × (result < 65536) }
-{
-    if kind == 0 {
-        constant_witnesses(book)
-    } else {
-        function_witnesses(book)
+// The kinds of witnesses.
+#[derive(Clone, Copy)]
+pub enum WitnessKind {
+    Constant = 0,
+    Function = 1,
+}
+
+impl WitnessKind {
+    // The kind that a book's number stands for, if it stands for one.
+    pub fn of_number(n: u64) -> Option<WitnessKind>
+        ensures { MatchOption result (2 ≤ n) (λ k. code_of_kind k ≡ n) }
+    {
+        match n {
+            0 => Some(WitnessKind::Constant),
+            1 => Some(WitnessKind::Function),
+            _ => None,
+        }
     }
 }
 
-pub fn arity_of(book: &[u8], kind: u64, w: u64) -> u64
-    ensures { (result ≡ witness_arity (names_in book.now) kind w) × (result < 65536) }
+// How many witnesses of a kind are declared, and the arity of one.
+pub fn witnesses_of(book: &[u8], kind: WitnessKind) -> u64
+    ensures { (result ≡ witnesses (names_in book.now) (code_of_kind kind)) × (result < 65536) }
 {
-    if kind == 0 { 0 } else { witness_arity(book, w) }
+    match kind {
+        WitnessKind::Constant => constant_witnesses(book),
+        WitnessKind::Function => function_witnesses(book),
+    }
+}
+
+pub fn arity_of(book: &[u8], kind: WitnessKind, w: u64) -> u64
+    ensures { (result ≡ witness_arity (names_in book.now) (code_of_kind kind) w) × (result < 65536) }
+{
+    match kind {
+        WitnessKind::Constant => 0,
+        WitnessKind::Function => witness_arity(book, w),
+    }
 }

@@ -55,6 +55,7 @@ pub fn origin_key(text: &[u8], at: usize, env: &[u64], v: usize) -> u64
     requires { (at ≤ length text.now) × Elements env.now v }
     ensures { IsOriginKey text.now at (take v env.now) result }
 {
+    // The kind stays a number: it is packed, as 3 and the kind.
     let kind = num16(text, at);
     if kind > 1 {
         return 0;

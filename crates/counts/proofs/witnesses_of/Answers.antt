@@ -1,13 +1,12 @@
 -- One kind or the other.
 use Rattle.rules.specs.Reading.{witnesses}
 use Rattle.base.specs.Branch.{if}
-use borrow.Author.Tests.{eq-eqb, ne_eqb}
 use Rattle.counts.proofs.witnesses_of.Goals as goal
 
-pub returns-then-kind-eq0 : goal.returns-then-kind-eq0
+pub returns-in-Constant : goal.returns-in-Constant
 unfolding witnesses if
-returns-then-kind-eq0 c = ((rw (eq-eqb _ _ c.if-kind-eq0.true) c.constant_witnesses.ensures.0), c.constant_witnesses.ensures.1)
+returns-in-Constant c = rw c.in-Constant.is c.constant_witnesses.ensures
 
-pub returns-else-kind-eq0 : goal.returns-else-kind-eq0
+pub returns-in-Function : goal.returns-in-Function
 unfolding witnesses if
-returns-else-kind-eq0 c = ((rw (ne_eqb _ _ c.if-kind-eq0.false) c.function_witnesses.ensures.0), c.function_witnesses.ensures.1)
+returns-in-Function c = rw c.in-Function.is c.function_witnesses.ensures
