@@ -7,7 +7,7 @@ ghost use Rattle.limits.specs.Limits.{limits_of, slot_at, slot_size};
 ghost use Rattle.sheets.specs.Form.{Formed};
 ghost use Rattle.adopting.specs.Slots.{Freed, Adopted};
 
-use heads::clear_slot;
+use heads::{Pool, clear_slot};
 use limits::Limits;
 use lists::{forget, join};
 use poolparts::next_number;
@@ -19,7 +19,7 @@ pub fn free_base(pool: &mut [u8], i: usize, limits: Limits)
     ensures { Freed (limits_of limits) i pool.old pool.new }
 {
     clear_slot(pool, i, limits);
-    forget(pool);
+    forget(&mut Pool { bytes: pool });
 }
 
 // The child in a working form goes into slot i with the next number and a place, open or bounded.
@@ -30,5 +30,5 @@ pub fn place_child(pool: &mut [u8], i: usize, cut: bool, place: u64, w: &mut [u6
     w[0] = next_number(pool);
     w[1] = place;
     put_sheet(pool, i, w, limits);
-    join(pool, i as u64, cut);
+    join(&mut Pool { bytes: pool }, i as u64, cut);
 }

@@ -18,6 +18,9 @@ use numbers::{
 use refusals::Refusal;
 use terms::check_terms;
 
+// The most bytes of a book.
+pub const LONGEST_BOOK: usize = 32768;
+
 fn check_literal(book: &[u8], v: u64, at: usize) -> Checked
     ensures { checking result ≡ checked (literal_at (names_in book.now) v book.now at) }
 {
@@ -43,7 +46,7 @@ fn check_origin(book: &[u8], v: u64, at: usize) -> Checked
     ensures { checking result ≡ checked (origin_at (names_in book.now) v book.now at) }
 {
     let (number, a) = read_number(book, at)?;
-    let Some(kind) = WitnessKind::of_number(number) else {
+    let Ok(kind) = WitnessKind::try_from(number) else {
         return refuse(Refusal::UnknownKind, at);
     };
     let (w, b) = read_declared(book, witnesses_of(book, kind), a)?;
@@ -98,9 +101,9 @@ fn check_sequents(book: &[u8], count: u64, at: usize) -> Checked
 fn check_mark(book: &[u8]) -> Value
     ensures { reading result ≡ mark book.now }
 {
-    let (_, a) = read_mark(book, 82, 0)?;
-    let (_, b) = read_mark(book, 85, a)?;
-    read_mark(book, 76, b)
+    let (_, a) = read_mark(book, b'R' as u64, 0)?;
+    let (_, b) = read_mark(book, b'U' as u64, a)?;
+    read_mark(book, b'L' as u64, b)
 }
 
 // Counts and arities.
@@ -126,7 +129,7 @@ fn check_front(book: &[u8]) -> Checked
 pub fn check_book(book: &[u8]) -> Checked
     ensures { checking result ≡ checked (read_book book.now) }
 {
-    if book.len() > 32768 {
+    if book.len() > LONGEST_BOOK {
         return refuse(Refusal::BookTooLong, 0);
     }
     let c = check_front(book)?;

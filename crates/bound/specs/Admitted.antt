@@ -1,5 +1,5 @@
 -- One law for each way out of putting a literal's terms to the bound.
-use Rattle.std.specs.Prelude.{◌≡◌, ℕ, ◌+◌, ◌-◌, ◌≤◌, ◌<◌, Bool, true, false, List, length, ◌⊎◌, Some, None}
+use Rattle.std.specs.Prelude.{◌≡◌, ℕ, zero, suc, ◌+◌, ◌-◌, ◌≤◌, ◌<◌, Bool, true, false, List, length, leb, ltb, ◌⊎◌, Some, None}
 use Rattle.std.proofs.lemmas.Option.{none-some, some_pair_parts}
 use Rattle.std.proofs.Math.Path.{refl}
 use Rattle.std.proofs.Common.{sym, ap, ◌∙◌, subst, arith, inl, inr}
@@ -11,6 +11,7 @@ use Rattle.rules.specs.Reading.{Bytes}
 use Rattle.rules.specs.Sheet.{Model, domain, Limits}
 use Rattle.rules.specs.Look.{Meaning, look}
 use Rattle.rules.specs.Bound.{Bound, History, depth, admits, admitted}
+use Rattle.rules.specs.Calls.{bound_of}
 use Rattle.texts.specs.Text.{count}
 use Rattle.look.specs.Answers.{IsLook}
 use Rattle.look.specs.Ways.{look_some, look_none}
@@ -19,6 +20,26 @@ use Rattle.enter.specs.Terms.{Setting, Told, TermAt, TermsAt}
 use Rattle.enter.specs.Ways.{terms_first}
 use Rattle.bound.specs.Seen.{told_at}
 use Rattle.bound.specs.Answers.{IsDepth, IsAsked, IsAdmitted}
+
+-- ---- what a bound of each kind admits
+
+pub admits_any : (kind n size d : ℕ) → kind ≡ 0 → true ≡ admits (bound_of kind n) size d
+unfolding bound_of admits
+admits_any zero n size d e = refl
+admits_any (suc k) n size d e = absurd (omega arith)
+
+pub admits_size : (kind n size d : ℕ) → kind ≡ 1 → ltb size n ≡ admits (bound_of kind n) size d
+unfolding bound_of admits
+admits_size zero n size d e = absurd (omega arith)
+admits_size (suc zero) n size d e = refl
+admits_size (suc (suc k)) n size d e = absurd (omega arith)
+
+pub admits_depth : (kind n size d : ℕ) → (kind ≡ 0 → ⊥) → (kind ≡ 1 → ⊥) → leb d n ≡ admits (bound_of kind n) size d
+unfolding bound_of admits
+admits_depth zero n size d p q = absurd (p refl)
+admits_depth (suc zero) n size d p q = absurd (q refl)
+admits_depth (suc (suc zero)) n size d p q = refl
+admits_depth (suc (suc (suc k))) n size d p q = refl
 
 -- ---- one term
 

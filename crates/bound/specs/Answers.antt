@@ -7,8 +7,8 @@ use Rattle.rules.specs.Reading.{Bytes}
 use Rattle.rules.specs.Sheet.{Model, domain, Limits}
 use Rattle.rules.specs.Look.{Meaning, nobody, look}
 use Rattle.rules.specs.Bound.{Bound, History, depth_meaning, depth, depths, depth_over, admits, admitted}
-use Rattle.look.specs.declared.Head.{Head}
-use Rattle.look.specs.declared.Head.TheVariants.{Leaf, Apply}
+use Rattle.nodes.specs.declared.Head.{Head}
+use Rattle.nodes.specs.declared.Head.TheVariants.{Leaf, Apply}
 use Rattle.enter.specs.Terms.{Setting, Told, TermAt, TermsAt, Applies}
 
 -- Whatever the text: depths are no more than the text allows, and the next place is further on.
@@ -19,11 +19,6 @@ DepthGood len at (Some r) = (r.0 ≤ 65536 + (r.1 - at)) × ((at < r.1) × (r.1 
 abbrev pub DepthsGood : ℕ → ℕ → std.Option (ℕ × ℕ) → Type 0
 DepthsGood len at None = Unit
 DepthsGood len at (Some r) = (r.0 ≤ 65537 + (r.1 - at)) × ((at ≤ r.1) × (r.1 ≤ len))
-
-abbrev pub DepthHeadGood : ℕ → ℕ → std.Option (Head ℕ) → Type 0
-DepthHeadGood len at None = Unit
-DepthHeadGood len at (Some (Leaf d)) = (d ≤ 65536) × (at + 4 ≤ len)
-DepthHeadGood len at (Some (Apply f n)) = at + 4 ≤ len
 
 abbrev pub AskGood : ℕ → ℕ → ℕ → std.Option (ℕ × ℕ) → Type 0
 AskGood len at size None = Unit

@@ -21,13 +21,16 @@ use Rattle.soundness.specs.Enter.{Means}
 use Rattle.texts.specs.Names.{names_in}
 use Rattle.texts.specs.Text.{count, TermText, TermsText}
 use Rattle.texts.specs.Parts.{term_grows}
-use Rattle.look.specs.declared.Head.TheVariants.{Leaf, Apply}
+use Rattle.nodes.specs.declared.Atom.TheVariants.{Variable, Constant}
+use Rattle.nodes.specs.declared.Head.TheVariants.{Leaf, Apply}
+use Rattle.nodes.specs.Heads.{HeadAt}
 use Rattle.look.specs.Shown.{pack_meaning}
 use Rattle.look.specs.Answers.{IsLook}
 use Rattle.look.specs.Ways.{look_some, look_none}
 use Rattle.sheets.specs.Form.{view_of}
 use Rattle.enter.specs.Terms.{told_holding, TermsAt}
 use Rattle.enter.specs.Ways.{terms_first, meaning_at}
+use Rattle.enter.specs.Ways as enter
 use Rattle.bound.specs.Seen.{told_at, setting_stands, shallow, DepthMeant}
 use Rattle.bound.specs.Answers.{IsDepthVariable, IsDepth, IsDepths, HeadDepth}
 
@@ -77,6 +80,17 @@ module _ (book text : Bytes) (at : ℕ) (lim : Limits) (env w : List ℕ) (j : �
   head_constant k z m now t (var i) e a n = absurd (omega (arith, a.stands.0))
   head_constant k z m now t (con c) e a n = (sym (depth_unknown (con c) m now z.ms n), a.stands.1.1)
   head_constant k z m now t (app f ts) e a n = absurd (omega (arith, a.stands.0))
+
+-- The same of what was read there.
+module _ (book text : Bytes) (at : ℕ) (lim : Limits) (env w : List ℕ) where
+  pub read_variable : (i : ℕ) → HeadAt book text at (Some (Leaf (Variable i))) → (r : ℕ) → IsDepthVariable lim env i w r → HeadDepth book text at lim env w (Some (Leaf r))
+  read_variable i h = head_variable book text at lim env w i (sym h.1.1.0) h.0
+
+  pub read_constant : (c : ℕ) → HeadAt book text at (Some (Leaf (Constant c))) → HeadDepth book text at lim env w (Some (Leaf 0))
+  read_constant c h = head_constant book text at lim env w c (sym h.1.1.0) h.0
+
+  pub read_apply : (f k : ℕ) → HeadAt book text at (Some (Apply f k)) → HeadDepth book text at lim env w (Some (Apply f k))
+  read_apply f k h = (enter.read_apply book text at lim env w f k h).1
 
 -- ---- terms
 

@@ -6,17 +6,16 @@ ghost use Rattle.std.specs.Prelude.{◌≡◌, ◌+◌, ◌≤◌, ◌<◌, leng
 ghost use Rattle.rules.specs.Bound.{admits};
 ghost use Rattle.limits.specs.Limits.{limits_of};
 ghost use Rattle.sheets.specs.Form.{view_of};
-ghost use Rattle.enter.specs.Grow.{Sturdy};
+ghost use Rattle.enter.specs.Grow.{Sturdy, sturdy_prop};
 ghost use Rattle.bound.specs.Bounds.{bound_is, ReadsBound};
 ghost use Rattle.bound.specs.Seen.{DepthMeant};
-ghost use Rattle.bound.specs.Answers.{DepthGood, DepthsGood, DepthHeadGood, AskGood, IsDepthVariable, IsDepth, IsDepths, HeadDepth, IsAsked, IsAdmitted};
+ghost use Rattle.bound.specs.Answers.{DepthGood, DepthsGood, AskGood, IsDepthVariable, IsDepth, IsDepths, IsAsked, IsAdmitted};
 
-use counts::function_arity;
 use enter::{depth_at, depth_over, now_of, resolve};
 use limits::Limits;
-use look::{Head, KEY_END, Tables, look_term};
+use look::{KEY_END, Tables, look_term};
+use nodes::{Atom, Head, Text, head_at};
 use refusals::Refusal;
-use words::num16;
 
 // A working form, with its tables for lookup.
 #[derive(Clone, Copy)]
@@ -25,6 +24,7 @@ pub struct Form<'a> {
     pub limits: Limits,
     pub tables: Tables<'a>,
     pub ghost keys_are: { tables.keys.now ≡ (view_of (limits_of limits) w.now).keys },
+    pub ghost sturdy: { Sturdy (limits_of limits) w.now } by { sturdy_prop (limits_of limits) w.now },
 }
 
 // What a term that is not known yet may be.
@@ -92,92 +92,61 @@ pub fn depth_variable(env: &[u64], i: u64, w: &[u64], limits: Limits) -> u64
     }
 }
 
-// What stands first in an unknown term, if there is enough text: a variable or a constant by its depth.
-fn depth_head(
-    book: &[u8],
-    text: &[u8],
-    at: usize,
-    env: &[u64],
-    w: &[u64],
-    limits: Limits,
-) -> Option<Head<u64>>
-    requires { (at ≤ length text.now) × Sturdy (limits_of limits) w.now }
-    ensures depth_head_good { DepthHeadGood (length text.now) at result }
-    ensures head_depth { HeadDepth book.now text.now at (limits_of limits) env.now w.now result }
-{
-    if text.len() - at < 4 {
-        return None;
-    }
-    let k = num16(text, at + 2);
-    Some(match num16(text, at) {
-        0 => Head::Leaf(depth_variable(env, k, w, limits)),
-        1 => Head::Leaf(0),
-        _ => Head::Apply(k, function_arity(book, k)),
-    })
-}
-
 // The depth of the term at a place, its element's if it is known, and the place behind the term; or the text is too short.
 #[cycle(depth_list_depth_term)]
-pub fn depth_term(
-    book: &[u8],
-    text: &[u8],
-    at: usize,
-    env: &[u64],
-    f: &Form<'_>,
-) -> Option<(u64, usize)>
-    requires { (at ≤ length text.now) × Sturdy (limits_of f.now.limits) f.now.w.now }
-    ensures depth_good { DepthGood (length text.now) at result }
-    ensures depth { IsDepth book.now text.now at (limits_of f.now.limits) env.now f.now.w.now f.now.tables.domain.now result }
+pub fn depth_term(s: &Text<'_>, at: usize, env: &[u64], f: &Form<'_>) -> Option<(u64, usize)>
+    requires { at ≤ length s.now.bytes.now }
+    ensures depth_good { DepthGood (length s.now.bytes.now) at result }
+    ensures depth { IsDepth s.now.book.now s.now.bytes.now at (limits_of f.now.limits) env.now f.now.w.now f.now.tables.domain.now result }
 {
-    if let Some((v, e)) = look_term(book, text, at, env, &f.tables) {
+    if let Some((v, e)) = look_term(s, at, env, &f.tables) {
         return Some((depth_at(f.w, f.limits, v) % 65536, e));
     }
-    match depth_head(book, text, at, env, f.w, f.limits)? {
-        Head::Leaf(d) => Some((d, at + 4)),
-        Head::Apply(k, n) => depth_list(book, text, at + 4, n, env, f),
+    match head_at(s, at)? {
+        Head::Leaf(Atom::Variable(i)) => Some((depth_variable(env, i, f.w, f.limits), at + 4)),
+        Head::Leaf(Atom::Constant(_)) => Some((0, at + 4)),
+        Head::Apply(k, n) => depth_list(s, at + 4, n, env, f),
     }
 }
 
 // The depth over the arguments at a place, so many, and the place behind them.
 #[cycle(depth_list_depth_term)]
 pub fn depth_list(
-    book: &[u8],
-    text: &[u8],
+    s: &Text<'_>,
     at: usize,
     count: u64,
     env: &[u64],
     f: &Form<'_>,
 ) -> Option<(u64, usize)>
-    requires { (at ≤ length text.now) × Sturdy (limits_of f.now.limits) f.now.w.now }
-    ensures depths_good { DepthsGood (length text.now) at result }
-    ensures depths { IsDepths book.now text.now at count (limits_of f.now.limits) env.now f.now.w.now f.now.tables.domain.now result }
+    requires { at ≤ length s.now.bytes.now }
+    ensures depths_good { DepthsGood (length s.now.bytes.now) at result }
+    ensures depths { IsDepths s.now.book.now s.now.bytes.now at count (limits_of f.now.limits) env.now f.now.w.now f.now.tables.domain.now result }
 {
     if count == 0 {
         return Some((0, at));
     }
-    let (d, e) = depth_term(book, text, at, env, f)?;
-    let (r, g) = depth_list(book, text, e, count - 1, env, f)?;
+    let (d, e) = depth_term(s, at, env, f)?;
+    let (r, g) = depth_list(s, e, count - 1, env, f)?;
     Some(((d + 1).max(r), g))
 }
 
 // The term at a place put to the bound, unless it is known: the place behind it and the count with it, or it is refused.
 fn ask(
-    book: &[u8],
-    text: &[u8],
+    s: &Text<'_>,
     at: usize,
     b: Bound,
     size: u64,
     env: &[u64],
     f: &Form<'_>,
 ) -> Option<(usize, u64)>
-    requires { (at ≤ length text.now) × ((size < 9223372036854775808) × Sturdy (limits_of f.now.limits) f.now.w.now) }
-    ensures ask_good { AskGood (length text.now) at size result }
-    ensures asked { IsAsked book.now text.now at (bound_is b) size (limits_of f.now.limits) env.now f.now.w.now f.now.tables.domain.now result }
+    requires { (at ≤ length s.now.bytes.now) × (size < 9223372036854775808) }
+    ensures ask_good { AskGood (length s.now.bytes.now) at size result }
+    ensures asked { IsAsked s.now.book.now s.now.bytes.now at (bound_is b) size (limits_of f.now.limits) env.now f.now.w.now f.now.tables.domain.now result }
 {
-    if let Some((_, e)) = look_term(book, text, at, env, &f.tables) {
+    if let Some((_, e)) = look_term(s, at, env, &f.tables) {
         return Some((e, size));
     }
-    let (d, e) = depth_term(book, text, at, env, f)?;
+    let (d, e) = depth_term(s, at, env, f)?;
     if b.admits(size, d) {
         return Some((e, size + 1));
     }
@@ -186,8 +155,7 @@ fn ask(
 
 // Does the bound admit the unknown ones among the terms at a place, so many?
 pub fn admitted(
-    book: &[u8],
-    text: &[u8],
+    s: &Text<'_>,
     at: usize,
     count: u64,
     b: Bound,
@@ -195,13 +163,13 @@ pub fn admitted(
     env: &[u64],
     f: &Form<'_>,
 ) -> bool
-    requires { (at ≤ length text.now) × ((size + count < 9223372036854775808) × Sturdy (limits_of f.now.limits) f.now.w.now) }
-    ensures { IsAdmitted book.now text.now at count (bound_is b) size (limits_of f.now.limits) env.now f.now.w.now f.now.tables.domain.now result }
+    requires { (at ≤ length s.now.bytes.now) × (size + count < 9223372036854775808) }
+    ensures { IsAdmitted s.now.book.now s.now.bytes.now at count (bound_is b) size (limits_of f.now.limits) env.now f.now.w.now f.now.tables.domain.now result }
 {
     let mut p = at;
     let mut n = size;
     for _ in 0..count {
-        let Some((e, more)) = ask(book, text, p, b, n, env, f) else {
+        let Some((e, more)) = ask(s, p, b, n, env, f) else {
             return false;
         };
         p = e;

@@ -2,15 +2,12 @@
 // for each a line says where it ends, or its refusal and the place of the fault.
 #![tactic(auto)]
 
-use records::{MOST, Stop, read, read_head, say, size, word};
+use records::{Stop, read, read_head, say, say_fault, size, until_stopped, word};
 
 fn report(bytes: &[u8]) {
     match book::check_book(bytes) {
         Ok(e) => say(b"ends at ", e as u64),
-        Err(f) => {
-            say(b"refused ", u64::from(u32::from(f.refusal)));
-            say(b" at ", f.at as u64);
-        }
+        Err(f) => say_fault(f),
     }
     word(b"\n");
 }
@@ -28,9 +25,5 @@ fn next(room: &mut [u8]) -> Result<(), Stop> {
 // No last line says why it ends.
 fn main() {
     let mut room = [0; 40000];
-    for _ in 0..MOST {
-        if next(&mut room).is_err() {
-            return;
-        }
-    }
+    until_stopped(|| next(&mut room));
 }

@@ -55,7 +55,7 @@ some_here : (o : Option ℕ) (x : std.Option ℕ) → x ≡ option_of o → std.
 some_here none x e h = let z : false ≡ true = sym (ap std.is_some e) ∙ h in absurd (cc)
 some_here (some v) x e h = (v, refl)
 
-module _ (b : Bound) (lim : Limits) (env : List ℕ) (v : ℕ) (w keys facts dom : List ℕ) (tables : TablesOf lim w keys facts dom) (x : std.Option ℕ)
+module _ (b : Bound) {lim : Limits} {env : List ℕ} {v : ℕ} {w keys facts dom : List ℕ} (tables : TablesOf lim w keys facts dom) {x : std.Option ℕ}
     (is : look.IsVariable env v keys dom x) where
   module _ (book : Bytes) (z : Setting book lim env) (k : Child) (s : Held book lim env z w k) (l : v < length z.ms) where
     looked : x ≡ option_of (look (var v) k.model z.ms)
@@ -74,7 +74,7 @@ module _ (b : Bound) (lim : Limits) (env : List ℕ) (v : ℕ) (w keys facts dom
       let e = some_here (look (var v) k.model z.ms) x (looked book z k s l) h in
       (rw e.1, rw (e.1, eq-eqb e.0 e.0 refl))
 
-  module _ (far : std.is_some x ≡ false) (d : ℕ) (deep : IsDepthVariable lim env v w d) where
+  module _ (far : std.is_some x ≡ false) {d : ℕ} (deep : IsDepthVariable lim env v w d) where
     depth_here : (book : Bytes) (z : Setting book lim env) (k : Child) (s : Held book lim env z w k) (l : v < length z.ms) → d ≡ depth (var v) k.model k.now z.ms
     unfolding unknown_depth
     depth_here book z k s l = deep book z k.model k.now s.told l ∙ sym (depth_unknown (var v) k.model k.now z.ms (unknown book z k s l far))
@@ -88,11 +88,11 @@ module _ (b : Bound) (lim : Limits) (env : List ℕ) (v : ℕ) (w keys facts dom
         → admits b (suc (length (domain k.model))) (depth (var v) k.model k.now z.ms) ≡ r
     second book z k s l r q = sym (q ∙ ap₂ (admits b) (add-one (length dom) ∙ ap suc (size book z k s l)) (depth_here book z k s l))
 
-    pub judged_cut : (r : Bool) → r ≡ admits b (length dom) d → r ≡ false → IsJudged b lim env v w Cut
+    pub judged_cut : {r : Bool} → r ≡ admits b (length dom) d → r ≡ false → IsJudged b lim env v w Cut
     unfolding terms_of admitted case_o if
-    judged_cut r q f book z k s l = rw (unknown book z k s l far, first book z k s l r q, f)
+    judged_cut {r} q f book z k s l = rw (unknown book z k s l far, first book z k s l r q, f)
 
-    module _ (r t : Bool) (q : r ≡ admits b (length dom) d) (p : r ≡ true) (u : t ≡ admits b (length dom + 1) d) where
+    module _ {r t : Bool} (q : r ≡ admits b (length dom) d) (p : r ≡ true) (u : t ≡ admits b (length dom + 1) d) where
       pub judged_cut_2 : t ≡ false → IsJudged b lim env v w Cut
       unfolding terms_of admitted case_o if
       judged_cut_2 f book z k s l = rw (unknown book z k s l far, first book z k s l r q, p, second book z k s l t u, f)
@@ -103,12 +103,12 @@ module _ (b : Bound) (lim : Limits) (env : List ℕ) (v : ℕ) (w keys facts dom
 
 -- ---- recording
 
-module _ (lim : Limits) (env : List ℕ) (v : ℕ) (w w₁ : List ℕ) where
+module _ {lim : Limits} {env : List ℕ} {v : ℕ} {w : List ℕ} (w₁ : List ℕ) where
   pub own_full : (f : TooLarge) → IsVariable lim env v w None w₁ → IsRecorded lim env v w (Err f) w₁
   unfolding enter
   own_full f g book z k s l = side_full book lim env z w k s (var v) (var v) f w₁ (g book z k.model k.now s.told l)
 
-  module _ (x : ℕ) (w₂ : List ℕ) (g : IsVariable lim env v w (Some x) w₁) where
+  module _ {x : ℕ} (w₂ : List ℕ) (g : IsVariable lim env v w (Some x) w₁) where
     told₁ : (book : Bytes) (z : Setting book lim env) (k : Child) (s : Held book lim env z w k) → v < length z.ms → Told book lim env z w₁ (enter (var v) k.model k.now z.ms).0 k.now
     unfolding enter
     told₁ book z k s l = entered_told book lim env z w k s (var v) w₁ l (g book z k.model k.now s.told l).1
@@ -117,16 +117,16 @@ module _ (lim : Limits) (env : List ℕ) (v : ℕ) (w w₁ : List ℕ) where
     unfolding enter
     own_full_2 f h book z k s l = side_full_2 book lim env z w k s (var v) (var v) f w₂ (h book z (enter (var v) k.model k.now z.ms).0 k.now (told₁ book z k s l) l)
 
-    pub own_merged : (y : ℕ) (w₃ : List ℕ) → IsVariable lim env v w₁ (Some y) w₂ → MergedForm lim x y w₂ w₃ → (done : Unit {0}) → IsRecorded lim env v w (Ok done) w₃
+    pub own_merged : {y : ℕ} {w₃ : List ℕ} → IsVariable lim env v w₁ (Some y) w₂ → MergedForm lim x y w₂ w₃ → (done : Unit {0}) → IsRecorded lim env v w (Ok done) w₃
     unfolding enter
-    own_merged y w₃ h r done book z k s l =
+    own_merged {y} {w₃} h r done book z k s l =
         let p = g book z k.model k.now s.told l in
         let q = h book z (enter (var v) k.model k.now z.ms).0 k.now (told₁ book z k s l) l in
         side_merged book lim env z w k s (var v) (var v) l l x y w₂ w₃ p.0 q.0 q.1 r done
 
 -- ---- telling
 
-module _ (b : Bound) (lim : Limits) (env : List ℕ) (v : ℕ) (cut : Bool) (w : List ℕ) where
+module _ (b : Bound) {lim : Limits} {env : List ℕ} {v : ℕ} {cut : Bool} {w : List ℕ} where
   pub own_cut : IsJudged b lim env v w Cut → IsOwn b lim env v cut w (Ok true) w
   own_cut g book z k s c l = tell_cut book lim b env w z k s (own v) (g book z k s l)
 

@@ -39,7 +39,7 @@ abbrev pub IsExistential : Bytes → Bytes → ℕ → ℕ → Bound → Limits 
 IsExistential book text at n b lim env v before w r w' = (z : Setting book lim env) (c : Child) → Held book lim env z w c → before ≡ c.cut → v < length z.ms
     → (ls : List Literal) (e : ℕ) → LiteralsAt book text at n (length z.ms) ls e → Goes book lim env z (tells lim b z.ms (own_of v ls) c) r w'
 
-module _ (book text : Bytes) (at n : ℕ) (b : Bound) (lim : Limits) (env : List ℕ) (v : ℕ) (before : Bool) (w : List ℕ) (r : Bool)
+module _ {book text : Bytes} {at n : ℕ} (b : Bound) {lim : Limits} {env : List ℕ} {v : ℕ} {before : Bool} {w : List ℕ} {r : Bool}
     (m : MentionsOne (names_in book) text v at n r) where
   pub existential_there : r ≡ true → IsExistential book text at n b lim env v before w (Ok before) w
   unfolding own_of tells if

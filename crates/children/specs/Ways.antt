@@ -1,4 +1,4 @@
--- One law for each way out of making a child, and for each step of the walk over the children of a sequent.
+-- Laws of the ways out of making a child, and of the steps of the walk over the children of a sequent.
 use Rattle.std.specs.Prelude.{◌≡◌, refl, ℕ, ◌+◌, ◌-◌, ◌≤◌, ◌<◌, Bool, true, false, ◌||◌, take, Result, Ok, Err, is_err}
 use Rattle.std.proofs.Common.{sym, ◌∙◌, subst, length-take-le}
 use Rattle.std.proofs.Math.Path.{ap}

@@ -4,7 +4,7 @@
 
 ghost use Rattle.std.specs.Prelude.{◌≡◌, ◌≤◌, ◌<◌, length, take, is_err};
 ghost use Rattle.limits.specs.Limits.{limits_of};
-ghost use Rattle.enter.specs.Grow.{Sturdy};
+ghost use Rattle.enter.specs.Grow.{Sturdy, sturdy_prop};
 ghost use Rattle.bound.specs.Bounds.{bound_is};
 ghost use Rattle.firing.specs.Answers.{Elements};
 ghost use Rattle.children.specs.Derived.{IsDerived, AnyOver};
@@ -13,60 +13,83 @@ use bound::Bound;
 use child::child;
 use firing::make_env;
 use limits::Limits;
+use nodes::Text;
 use skips::skip_disjunct;
-use telling::TooLarge;
+use telling::{Case, TooLarge};
 use words::num16;
 
-// The child of the disjunct at a place, at v chosen elements. The answer: was one of its literals skipped?
-pub fn derive(
-    book: &[u8],
+// What stays while the children of a sequent that fired are made: the book, how many elements are chosen, the bound, and the base in its
+// working form of N entries. There is room for K elements that live, which are no more than a sheet has keys.
+#[derive(Clone, Copy)]
+pub struct Branching<'a, const N: usize, const K: usize> {
+    pub book: &'a [u8],
+    pub chosen: usize,
+    pub bound: Bound,
+    pub base: &'a [u64; N],
+    pub limits: Limits,
+    pub ghost few: { chosen < 65536 },
+    pub ghost room: { limits.keys ≤ K },
+    pub ghost sturdy: { Sturdy (limits_of limits) base.now } by { sturdy_prop (limits_of limits) base.now },
+}
+
+// What is written over for each child: its working form of N entries, an environment of E with the chosen elements in front, and room for
+// K elements that live.
+#[derive(Drop)]
+pub struct Scratch<const N: usize, const K: usize, const E: usize> {
+    pub form: [u64; N],
+    pub env: [u64; E],
+    pub domain: [u64; K],
+    pub ghost whole: { length env ≡ E },
+}
+
+// The child of the disjunct at a place. The answer: was one of its literals skipped?
+pub fn derive<const N: usize, const K: usize, const E: usize>(
+    p: &Branching<'_, N, K>,
     at: usize,
-    v: usize,
-    b: Bound,
-    env: &mut [u64],
-    base: &[u64],
-    w: &mut [u64],
-    limits: Limits,
-    dom: &mut [u64],
+    m: &mut Scratch<N, K, E>,
 ) -> Result<bool, TooLarge>
-    requires { (at ≤ length book.now) × ((length book.now ≤ 32768) × ((v < 65536) × (Elements env.old v × ((limits.keys ≤ length dom.old) × (Sturdy (limits_of limits) base.now × (length w.old ≡ length base.now)))))) }
-    ensures env_unchanged { take v env.new ≡ take v env.old }
-    ensures sturdy { Sturdy (limits_of limits) w.new }
-    ensures derived { IsDerived book.now at v (bound_is b) (limits_of limits) env.old base.now result w.new }
+    requires { (at ≤ length p.now.book.now) × Elements m.old.env p.now.chosen }
+    ensures env_unchanged { take p.now.chosen m.new.env ≡ take p.now.chosen m.old.env }
+    ensures sturdy { Sturdy (limits_of p.now.limits) m.new.form }
+    ensures derived { IsDerived p.now.book.now at p.now.chosen (bound_is p.now.bound) (limits_of p.now.limits) m.old.env p.now.base.now result m.new.form }
 {
-    w.copy_from_slice(base);
+    let (book, base) = (p.book, p.base);
+    let text = Text { book, bytes: book };
+    m.form.copy_from_slice(base);
     if book.len() - at < 2 {
         return Err(TooLarge);
     }
     let k = num16(book, at) as usize;
-    if env.len() - v < k {
+    if m.env.len() - p.chosen < k {
         return Err(TooLarge);
     }
-    make_env(book, book, at + 2, k, env, v);
-    child(book, book, at, v as u64, b, &env[..v + k], w, limits, dom)
+    make_env(&text, at + 2, k, &mut m.env, p.chosen);
+    let case = Case {
+        text,
+        bound: p.bound,
+        env: &m.env[..p.chosen + k],
+        limits: p.limits,
+    };
+    child(&case, at, p.chosen as u64, &mut m.form, &mut m.domain)
 }
 
 // Is there room for each of the children of n disjuncts from a place on?
-pub fn all_fit(
-    book: &[u8],
+pub fn all_fit<const N: usize, const K: usize, const E: usize>(
+    p: &Branching<'_, N, K>,
     at: usize,
     n: u64,
-    v: usize,
-    b: Bound,
-    env: &mut [u64],
-    base: &[u64],
-    w: &mut [u64],
-    limits: Limits,
-    dom: &mut [u64],
+    m: &mut Scratch<N, K, E>,
 ) -> Result<(), TooLarge>
-    requires { (at ≤ length book.now) × ((length book.now ≤ 32768) × ((v < 65536) × (Elements env.old v × ((limits.keys ≤ length dom.old) × (Sturdy (limits_of limits) base.now × (length w.old ≡ length base.now)))))) }
-    ensures env_unchanged { take v env.new ≡ take v env.old }
-    ensures any_over { AnyOver book.now at n v (bound_is b) (limits_of limits) env.old base.now (is_err result) }
+    requires { (at ≤ length p.now.book.now) × Elements m.old.env p.now.chosen }
+    ensures env_unchanged { take p.now.chosen m.new.env ≡ take p.now.chosen m.old.env }
+    ensures any_over { AnyOver p.now.book.now at n p.now.chosen (bound_is p.now.bound) (limits_of p.now.limits) m.old.env p.now.base.now (is_err result) }
 {
-    let mut p = at;
+    let book = p.book;
+    let text = Text { book, bytes: book };
+    let mut q = at;
     for _ in 0..n {
-        derive(book, p, v, b, env, base, w, limits, dom)?;
-        p = skip_disjunct(book, book, p);
+        derive(p, q, m)?;
+        q = skip_disjunct(&text, q);
     }
     Ok(())
 }

@@ -26,7 +26,6 @@ pub fn choose(dom: &[u64], idx: &[usize], env: &mut [u64])
     requires { Below (length dom.now) idx.now × (length idx.now ≤ length env.old) }
     ensures { take (length idx.now) env.new ≡ chosen dom.now idx.now }
 {
-    // By index: what is written through `zip` over `iter_mut` is known through the iterator alone, and this needs no answer.
     for i in 0..idx.len() {
         env[i] = dom[idx[i]];
     }

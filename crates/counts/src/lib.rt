@@ -2,11 +2,12 @@
 // Total: the answers are those of `names_in`, which are the names of the book if it is accepted (texts, `accepted`).
 #![tactic(auto, using(texts::specs::Names::nums_at, texts::specs::Names::nums_past, texts::specs::Names::nums_length), unfolding(texts::specs::Names::names_in, texts::specs::Names::relations_at, texts::specs::Names::witnesses_at, texts::specs::Names::count_at, texts::specs::Names::sequents_at))]
 
-ghost use Rattle.std.specs.Prelude.{◌≡◌, ◌≤◌, ◌<◌, length, get_or, MatchOption};
+ghost use Rattle.std.specs.Prelude.{◌≡◌, ◌<◌, length, get_or};
 ghost use Rattle.rules.specs.Reading.{num, witnesses, witness_arity};
 ghost use Rattle.texts.specs.Names.{nums, names_in, relations_at, witnesses_at, count_at, sequents_at};
-ghost use Rattle.counts.specs.Kinds.{code_of_kind};
+ghost use Rattle.counts.specs.Kinds.{code_of_kind, KindOf};
 
+use refusals::Refusal;
 use words::num16;
 
 pub fn constants(book: &[u8]) -> u64
@@ -107,15 +108,17 @@ pub enum WitnessKind {
     Function = 1,
 }
 
-impl WitnessKind {
-    // The kind that a book's number stands for, if it stands for one.
-    pub fn of_number(n: u64) -> Option<WitnessKind>
-        ensures { MatchOption result (2 ≤ n) (λ k. code_of_kind k ≡ n) }
-    {
-        match n {
-            0 => Some(WitnessKind::Constant),
-            1 => Some(WitnessKind::Function),
-            _ => None,
+// The kind that a book's number stands for, if it stands for one.
+impl TryFrom<u64> for WitnessKind {
+    type Error = Refusal;
+
+    ghost try_from_gives = { KindOf };
+
+    fn try_from(number: u64) -> Result<Self, Refusal> {
+        match number {
+            0 => Ok(WitnessKind::Constant),
+            1 => Ok(WitnessKind::Function),
+            _ => Err(Refusal::UnknownKind),
         }
     }
 }

@@ -6,6 +6,8 @@ ghost use Rattle.std.specs.Prelude.{◌≡◌, map, ◌≤◌, length, take};
 ghost use Rattle.base.specs.Lists.{mem, firsts};
 ghost use Rattle.packing.specs.Replace.{value_of};
 
+use packing::value;
+
 // Is e one of the elements?
 pub fn known(dom: &[u64], e: u64) -> bool
     ensures { result ≡ mem e dom.now }
@@ -20,7 +22,7 @@ pub fn list_domain(keys: &[u64], dom: &mut [u64]) -> usize
 {
     let mut nd = 0;
     for x in keys {
-        let e = *x % 256;
+        let e = value(*x);
         if !known(&dom[..nd], e) {
             dom[nd] = e;
             nd += 1;

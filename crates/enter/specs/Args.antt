@@ -1,6 +1,6 @@
 -- The arguments of a packed key, each through a table: the depth over them, and the key at what they are now.
 -- A key q is taken as the entry q * 256, whose digits `packing` reads.
-use Rattle.std.specs.Prelude.{◌≡◌, refl, ℕ, zero, suc, ◌+◌, ◌*◌, ◌/◌, ◌%◌, ◌^◌, ◌≤◌, ◌<◌, max, List, [], ◌∷◌, map, length, T, ltb, not, ◌⊎◌}
+use Rattle.std.specs.Prelude.{◌≡◌, refl, ℕ, zero, suc, ◌+◌, ◌*◌, ◌/◌, ◌%◌, ◌^◌, ◌≤◌, ◌<◌, max, min, List, [], ◌∷◌, map, length, T, ltb, not, ◌⊎◌}
 use Rattle.std.proofs.Math.Path.{sym, ap}
 use Rattle.std.proofs.Common.{◌∙◌, lt→ltb, ltb→lt, nltb→le, inl, inr}
 use native.Mathlib.Omega.{arith}
@@ -21,6 +21,10 @@ use Rattle.packing.specs.Replace.{count_of, arg_of, Eight, pack_eight, eight, co
 -- Depths stay far below this: an element's is less than the number of elements.
 unfoldable pub one_more : ℕ → ℕ
 one_more d = if (ltb d 65536) (λ _. d + 1) (λ _. 65536)
+
+pub one_more_is : (d : ℕ) → one_more d ≡ min (d + 1) 65536
+unfolding one_more
+one_more_is d = if_elim (λ r. r ≡ min (d + 1) 65536) (ltb d 65536) _ _ (λ t. omega (arith, ltb→lt d 65536 t)) (λ t. omega (arith, nltb→le d 65536 t))
 
 -- One more than the depth of the i-th argument, or 0 if there is none.
 unfoldable pub above : List ℕ → ℕ → ℕ → ℕ

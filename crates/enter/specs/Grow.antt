@@ -2,13 +2,14 @@
 use Rattle.std.specs.Prelude.{◌≡◌, ℕ, ◌+◌, ◌≤◌, ◌<◌, length, take, drop}
 use Rattle.std.proofs.Common.{sym, ◌∙◌, arith, add-one, length-set, length-drop, get_or-set_same, get_or-set_other, take-suc-set}
 use Rattle.std.proofs.Math.Path.{ap, subst}
+use Rattle.std.proofs.Props.{props}
 use mathlib.Core.List.{List, [], ◌∷◌, ◌++◌}
 use Rattle.std.proofs.Math.ListN.{get_or, set}
 use Rattle.std.proofs.lemmas.List.{drop-set-add}
 use borrow.Rule.Slice.PartMut.{put_mid}
 use Rattle.rules.specs.Sheet.{Limits}
 use Rattle.rules.specs.Image.{part}
-use Rattle.tables.specs.Table.{put_in, Rising, put_rises}
+use Rattle.tables.specs.Table.{put_in, Rising, rising_prop, put_rises}
 use Rattle.octets.specs.Patch.{patched, patched_length, patched_part, patched_one}
 use Rattle.sheets.specs.Parts.{part_here, part_before, part_behind, count_before}
 use Rattle.sheets.specs.Form.{View, view_of, Formed, keys_at, facts_at, depths_at, history_at, form_size}
@@ -22,6 +23,9 @@ pub record Sturdy (lim : Limits) (w : List ℕ) : Type 0 where
   pub even : lim.facts ≤ lim.keys
   pub rising : Rising (view_of lim w).keys
   pub held : Rising (view_of lim w).facts
+
+pub sturdy_prop : (lim : Limits) (w : List ℕ) → IsProp (Sturdy lim w)
+sturdy_prop lim w = hlevel (props, rising_prop)
 
 -- ---- one entry set
 

@@ -15,8 +15,8 @@ use Rattle.texts.specs.Names.{names_in}
 use Rattle.texts.specs.Text.{count, TermText, TermsText}
 use Rattle.look.specs.Shown.{pack_meaning}
 use Rattle.look.specs.Digits.{pack_args}
-use Rattle.look.specs.declared.Head.{Head}
-use Rattle.look.specs.declared.Head.TheVariants.{Leaf, Apply}
+use Rattle.nodes.specs.declared.Head.{Head}
+use Rattle.nodes.specs.declared.Head.TheVariants.{Leaf, Apply}
 use Rattle.enter.specs.Keep.{Carries, carries_small, PutIs, Crowded}
 use Rattle.enter.specs.Marks.{Holding}
 

@@ -25,7 +25,9 @@ use Rattle.texts.specs.Names.{names_in}
 use Rattle.texts.specs.Text.{count, TermText, TermsText}
 use Rattle.texts.specs.Parts.{term_grows, terms_grow}
 use Rattle.look.specs.Shown.{pack_meaning}
-use Rattle.look.specs.declared.Head.TheVariants.{Leaf, Apply}
+use Rattle.nodes.specs.declared.Atom.TheVariants.{Variable, Constant}
+use Rattle.nodes.specs.declared.Head.TheVariants.{Leaf, Apply}
+use Rattle.nodes.specs.Heads.{HeadAt}
 use Rattle.look.specs.Digits.{start, top, pack_args, pack_args_lem}
 use Rattle.enter.specs.Keep.{PutIs, Crowded}
 use Rattle.enter.specs.Grows.{put_grows, enters_grow, crowded_grows}
@@ -105,6 +107,18 @@ module _ (book text : Bytes) (at : ℕ) (lim : Limits) (env w : List ℕ) (j : �
               fits = a.fits;
             };
           }
+
+-- The same of what was read there.
+module _ (book text : Bytes) (at : ℕ) (lim : Limits) (env w : List ℕ) where
+  pub read_variable : (i : ℕ) → HeadAt book text at (Some (Leaf (Variable i))) → (r : std.Option ℕ) (w' : List ℕ) → IsVariable lim env i w r w' → HeadIs book text at lim env w (Some (Leaf r)) w'
+  read_variable i h = head_variable book text at lim env w i (sym h.1.1.0) h.0
+
+  pub read_constant : (c : ℕ) → HeadAt book text at (Some (Leaf (Constant c))) → (q : ℕ) (r : std.Option ℕ) (w' : List ℕ) → q ≡ start 1 c 0 → Recorded lim q w r w'
+      → HeadIs book text at lim env w (Some (Leaf r)) w'
+  read_constant c h = head_constant book text at lim env w c (sym h.1.1.0) h.0
+
+  pub read_apply : (f k : ℕ) → HeadAt book text at (Some (Apply f k)) → HeadIs book text at lim env w (Some (Apply f k)) w
+  read_apply f k h = head_applied book text at lim env w f (sym h.1.0.1.0) h.0.0 h.0.1 k h.1.1.0
 
 -- ---- argument lists
 

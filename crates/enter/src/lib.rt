@@ -3,21 +3,19 @@
 #![tactic(auto)]
 
 ghost use Rattle.std.specs.Prelude.{◌≡◌, ◌+◌, ◌*◌, ◌%◌, ◌≤◌, ◌<◌, length, get_or};
-ghost use Rattle.look.specs.Digits.{Roomy};
-ghost use Rattle.look.specs.Answers.{Octets, LookGood, ArgsGood, HeadGood};
+ghost use Rattle.look.specs.Answers.{Octets, LookGood, ArgsGood};
 ghost use Rattle.limits.specs.Limits.{limits_of};
 ghost use Rattle.sheets.specs.Form.{view_of, Formed};
 ghost use Rattle.enter.specs.Grow.{Sturdy};
 ghost use Rattle.enter.specs.Keep.{PutKey};
 ghost use Rattle.enter.specs.Args.{one_more, above, depth_of, now_at, resolved};
 ghost use Rattle.enter.specs.Marks.{Recorded, Meant};
-ghost use Rattle.enter.specs.Terms.{IsVariable, IsEnter, IsEnters, HeadIs};
+ghost use Rattle.enter.specs.Terms.{IsVariable, IsEnter, IsEnters};
 
-use counts::function_arity;
 use limits::Limits;
-use look::{Head, KEY_END, TOP, begin, place};
+use look::{KEY_END, Packing};
+use nodes::{Atom, Head, Text, head_at};
 use packing::{argument, count};
-use words::num16;
 
 // The element of key q, a new one at depth d, if there is room for it.
 pub fn put_key(w: &mut [u64], limits: Limits, q: u64, d: u64) -> Option<u64>
@@ -34,7 +32,7 @@ pub fn put_key(w: &mut [u64], limits: Limits, q: u64, d: u64) -> Option<u64>
         return None;
     }
     let more = tables::put(&mut w[5..5 + limits.keys], n, q * 256 + created);
-    w[6 + limits.keys + limits.keys + limits.facts + created as usize] = d;
+    w[limits.depths_at() + created as usize] = d;
     w[2] = created + 1;
     w[3] = more as u64;
     Some(created)
@@ -48,7 +46,7 @@ pub fn depth_at(w: &[u64], limits: Limits, e: u64) -> u64
     if e >= w[2] {
         return 0;
     }
-    w[6 + limits.keys + limits.keys + limits.facts + e as usize]
+    w[limits.depths_at() + e as usize]
 }
 
 // What an element is now.
@@ -59,13 +57,13 @@ pub fn now_of(w: &[u64], limits: Limits, e: u64) -> u64
     if e >= limits.elements as u64 {
         return 0;
     }
-    w[6 + limits.keys + limits.keys + limits.facts + limits.elements + e as usize] % 256
+    w[limits.history_at() + e as usize] % 256
 }
 
 fn one_more(d: u64) -> u64
     ensures { result ≡ one_more d }
 {
-    if d < 65536 { d + 1 } else { 65536 }
+    d.saturating_add(1).min(65536)
 }
 
 // One more than the depth of the i-th argument of an entry, or 0 if there is none.
@@ -152,86 +150,52 @@ pub fn enter_variable(env: &[u64], i: u64, w: &mut [u64], limits: Limits) -> Opt
     record_meaning(w, limits, x)
 }
 
-// What stands first in the term at a place, if there is enough text; a variable or a constant is entered.
-fn enter_head(
-    book: &[u8],
-    text: &[u8],
-    at: usize,
-    env: &[u64],
-    w: &mut [u64],
-    limits: Limits,
-) -> Option<Head<Option<u64>>>
-    requires { (at ≤ length text.now) × Sturdy (limits_of limits) w.old }
-    ensures head_good { HeadGood (length text.now) at result }
-    ensures sturdy { Sturdy (limits_of limits) w.new }
-    ensures head_is { HeadIs book.now text.now at (limits_of limits) env.now w.old result w.new }
-{
-    if text.len() - at < 4 {
-        return None;
-    }
-    let k = num16(text, at + 2);
-    Some(match num16(text, at) {
-        0 => Head::Leaf(enter_variable(env, k, w, limits)),
-        1 => Head::Leaf(record_key(w, limits, begin(1, k, 0))),
-        _ => Head::Apply(k, function_arity(book, k)),
-    })
-}
-
 // The element of the term at a place, its arguments' first, and the place behind the term; or there is no room.
 #[cycle(enter_list_enter_term)]
 pub fn enter_term(
-    book: &[u8],
-    text: &[u8],
+    s: &Text<'_>,
     at: usize,
     env: &[u64],
     w: &mut [u64],
     limits: Limits,
 ) -> Option<(u64, usize)>
-    requires { (at ≤ length text.now) × Sturdy (limits_of limits) w.old }
-    ensures enter_good { LookGood (length text.now) at result }
+    requires { (at ≤ length s.now.bytes.now) × Sturdy (limits_of limits) w.old }
+    ensures enter_good { LookGood (length s.now.bytes.now) at result }
     ensures sturdy { Sturdy (limits_of limits) w.new }
-    ensures enter { IsEnter book.now text.now at (limits_of limits) env.now w.old result w.new }
+    ensures enter { IsEnter s.now.book.now s.now.bytes.now at (limits_of limits) env.now w.old result w.new }
 {
-    match enter_head(book, text, at, env, w, limits)? {
-        Head::Leaf(v) => Some((v?, at + 4)),
+    match head_at(s, at)? {
+        Head::Leaf(Atom::Variable(i)) => Some((enter_variable(env, i, w, limits)?, at + 4)),
+        Head::Leaf(Atom::Constant(c)) => {
+            let key = Packing::begin(1, c, 0).number;
+            Some((record_key(w, limits, key)?, at + 4))
+        }
         Head::Apply(f, n) => {
-            let (p, e) = enter_list(book, text, at + 4, n, begin(2, f, n), TOP, env, w, limits)?;
+            let (p, e) = enter_list(s, at + 4, n, Packing::begin(2, f, n), env, w, limits)?;
             Some((record_key(w, limits, p)?, e))
         }
     }
 }
 
-// The arguments at a place, so many, packed behind a number from a weight on; and the place behind them.
+// The number of a key with so many arguments more, which stand at a place; and the place behind them.
 #[cycle(enter_list_enter_term)]
 pub fn enter_list(
-    book: &[u8],
-    text: &[u8],
+    s: &Text<'_>,
     at: usize,
     count: u64,
-    acc: u64,
-    wt: u64,
+    acc: Packing,
     env: &[u64],
     w: &mut [u64],
     limits: Limits,
 ) -> Option<(u64, usize)>
-    requires { (at ≤ length text.now) × (Roomy acc wt × Sturdy (limits_of limits) w.old) }
-    ensures enters_good { ArgsGood (length text.now) at result }
+    requires { (at ≤ length s.now.bytes.now) × Sturdy (limits_of limits) w.old }
+    ensures enters_good { ArgsGood (length s.now.bytes.now) at result }
     ensures sturdy { Sturdy (limits_of limits) w.new }
-    ensures enters { IsEnters book.now text.now at count acc wt (limits_of limits) env.now w.old result w.new }
+    ensures enters { IsEnters s.now.book.now s.now.bytes.now at count acc.number acc.weight (limits_of limits) env.now w.old result w.new }
 {
     if count == 0 {
-        return Some((acc, at));
+        return Some((acc.number, at));
     }
-    let (v, e) = enter_term(book, text, at, env, w, limits)?;
-    enter_list(
-        book,
-        text,
-        e,
-        count - 1,
-        place(acc, v, wt),
-        wt / 256,
-        env,
-        w,
-        limits,
-    )
+    let (v, e) = enter_term(s, at, env, w, limits)?;
+    enter_list(s, e, count - 1, acc.place(v), env, w, limits)
 }

@@ -12,6 +12,7 @@ ghost use Rattle.evaluate.specs.Answers.{Handed, FirstOf, Evaluates};
 use counts::{sequent_count, sequents_start};
 use firing::first_choice;
 use look::Tables;
+use nodes::Text;
 use settings::Strategy;
 use skips::{skip_sequent, skip_sequents};
 
@@ -25,10 +26,10 @@ pub struct Fired {
 
 // The part of the book that holds the sequent at a place; the next one starts behind it.
 pub fn sequent_at(book: &[u8], at: usize) -> &[u8]
-    requires { (at ≤ length book.now) × (length book.now ≤ 32768) }
+    requires { at ≤ length book.now }
     ensures { Handed book.now at result.now }
 {
-    let e = skip_sequent(book, book, at);
+    let e = skip_sequent(&Text { book, bytes: book }, at);
     &book[at..e]
 }
 
@@ -41,7 +42,7 @@ fn first_of(
     env: &mut [u64],
     t: &Tables<'_>,
 ) -> Option<Fired>
-    requires fits { (at ≤ length book.now) × ((length book.now ≤ 32768) × ((i + n < 65536) × (8 ≤ length env.old))) }
+    requires fits { (at ≤ length book.now) × ((i + n < 65536) × (8 ≤ length env.old)) }
     requires octets { All (λ e. e < 256) t.now.domain.now }
     ensures { FirstOf book.now at i n t.now.keys.now t.now.facts.now t.now.domain.now result env.new }
 {
@@ -49,7 +50,7 @@ fn first_of(
     for j in 0..n {
         let q = sequent_at(book, p);
         let end = p + q.len();
-        if first_choice(book, q, env, t) {
+        if first_choice(&Text { book, bytes: q }, env, t) {
             return Some(Fired {
                 number: i + j,
                 at: p,
@@ -69,7 +70,7 @@ pub fn evaluate(
     env: &mut [u64],
     t: &Tables<'_>,
 ) -> Option<Fired>
-    requires fits { (length book.now ≤ 32768) × ((place ≤ num book.now (count_at book.now)) × (8 ≤ length env.old)) }
+    requires fits { (place ≤ num book.now (count_at book.now)) × (8 ≤ length env.old) }
     requires octets { All (λ e. e < 256) t.now.domain.now }
     ensures { Evaluates book.now (strategy_is strategy) place t.now.keys.now t.now.facts.now t.now.domain.now result env.new }
 {
@@ -81,7 +82,7 @@ pub fn evaluate(
     match strategy {
         Strategy::Linear => first_of(book, start, 0, n, env, t),
         Strategy::Fair => {
-            let middle = skip_sequents(book, book, start, place);
+            let middle = skip_sequents(&Text { book, bytes: book }, start, place);
             match first_of(book, middle, place, n - place, env, t) {
                 None => first_of(book, start, 0, place, env, t),
                 found => found,

@@ -15,22 +15,18 @@ ghost use Rattle.settings.specs.Codes.{strategy_is};
 ghost use Rattle.texts.specs.Heads.{ReadAs};
 ghost use Rattle.evaluates.specs.Lone.{Lone, FiresOn};
 
-use book::check_book;
+use book::{LONGEST_BOOK, check_book};
 use evalforms::evaluate_form;
 use evaluate::Fired;
-use limits::{FORM, LIMITS, SLOT};
-use records::{Stop, read, read_head, say, size, word};
+use limits::{FORM, LIMITS, SLOT, SLOT_KEYS};
+use records::{Stop, read, read_head, say, say_fault, size, word};
 use settings::Strategy;
 use sheetcheck::lone_sound;
 use sheets::load_sheet;
 use words::num16;
 
-// Where a slot's keys, facts and depths stand.
-const KEYS_AT: usize = 16;
-
-const FACTS_AT: usize = KEYS_AT + 8 * LIMITS.keys;
-
-const DEPTHS_AT: usize = FACTS_AT + 8 * LIMITS.facts;
+// One byte more than the longest book tells one that is too long.
+const ROOM: usize = LONGEST_BOOK + 1;
 
 // What fires on a sheet that passed the checks; the choice is left in the environment.
 fn fires(book: &[u8], strategy: Strategy, slot: &[u8; SLOT], env: &mut [u64; 8]) -> Option<Fired>
@@ -85,8 +81,8 @@ fn report(book: &[u8], strategy: u32, slot: &[u8; SLOT]) {
     };
     match check_book(book) {
         Err(f) => {
-            say(b"book refused ", u64::from(u32::from(f.refusal)));
-            say(b" at ", f.at as u64);
+            word(b"book ");
+            say_fault(f);
             word(b"\n");
         }
         Ok(_) => check_sheet(book, strategy, slot),
@@ -101,10 +97,12 @@ fn read_part(part: &mut [u8], n: u64) -> Result<(), Stop> {
 
 // The sheet of a record, part by part.
 fn read_sheet(head: &[u8], slot: &mut [u8; SLOT]) -> Result<(), Stop> {
-    read_part(&mut slot[..KEYS_AT], num16(head, 8))?;
-    read_part(&mut slot[KEYS_AT..FACTS_AT], num16(head, 10))?;
-    read_part(&mut slot[FACTS_AT..DEPTHS_AT], num16(head, 12))?;
-    read_part(&mut slot[DEPTHS_AT..], num16(head, 14))
+    let facts = LIMITS.slot_facts_at();
+    let depths = LIMITS.slot_depths_at();
+    read_part(&mut slot[..SLOT_KEYS], num16(head, 8))?;
+    read_part(&mut slot[SLOT_KEYS..facts], num16(head, 10))?;
+    read_part(&mut slot[facts..depths], num16(head, 12))?;
+    read_part(&mut slot[depths..], num16(head, 14))
 }
 
 // The next record of the input, and its line.
@@ -118,9 +116,8 @@ fn next(room: &mut [u8], slot: &mut [u8; SLOT]) -> Result<(), Stop> {
     Ok(())
 }
 
-// One byte more than the longest book tells one that is too long.
 fn main() {
-    let mut room = [0; 32769];
+    let mut room = [0; ROOM];
     let mut slot = [0; SLOT];
     records::each(b"record", || next(&mut room, &mut slot));
 }

@@ -1,4 +1,4 @@
-// Tables that are in order filed anew, in place: each entry is put behind those before it. A table is the first n entries of a
+// Tables that are in order filed anew, in place: each entry is put behind those before it. A table is the first entries of a
 // slice; of two entries that became one key the pair of values goes onto a stack that grows down from the slice's end. Pairs,
 // and lone elements, are renamed as entries are.
 #![tactic(auto)]
@@ -10,6 +10,7 @@ ghost use Rattle.tables.specs.Last.{NoneAbove};
 ghost use Rattle.renaming.specs.Order.{Sorted};
 ghost use Rattle.filing.specs.File.{Filing, Refiled, Refacted};
 
+use packing::{Replacement, key, value};
 use tables::{look_last, put_last};
 
 // Where the table ends, and where the stack of pairs begins.
@@ -19,13 +20,12 @@ pub struct Ends {
     pub top: usize,
 }
 
-// Element l becomes s in every entry.
-pub fn rename_all(t: &mut [u64], s: u64, l: u64)
-    requires { s < 256 }
-    ensures { t.new ≡ map (replaced s l) t.old }
+// The replacement is made in every entry.
+pub fn rename_all(t: &mut [u64], r: Replacement)
+    ensures { t.new ≡ map (replaced r.stays r.goes) t.old }
 {
     for x in t.iter_mut() {
-        *x = packing::replace(*x, s, l);
+        *x = r.replace(*x);
     }
 }
 
@@ -34,27 +34,30 @@ fn file(t: &mut [u64], ends: Ends, x: u64) -> Ends
     requires { (ends.count < ends.top) × ((ends.top ≤ length t.old) × (Rising (take ends.count t.old) × NoneAbove (key_of x) (take ends.count t.old))) }
     ensures { Filing x ends.count ends.top t.old result.count result.top t.new }
 {
-    let older = look_last(&t[..ends.count], x / 256);
+    let older = look_last(&t[..ends.count], key(x));
     let count = put_last(t, ends.count, x);
     let mut top = ends.top;
     if let Some(v) = older {
         top -= 1;
-        t[top] = v * 256 + x % 256;
+        t[top] = v * 256 + value(x);
     }
     Ends { count, top }
 }
 
-// The first n entries are filed anew, one after another. Between table and stack there is room for n pairs more.
-pub fn refile(t: &mut [u64], n: usize, top: usize) -> Ends
-    requires { (n + n ≤ top) × ((top ≤ length t.old) × Sorted (take n t.old)) }
-    ensures { Refiled n top t.old result.count result.top t.new }
+// The table is filed anew, its entries one after another. Between table and stack there is room for as many pairs more.
+pub fn refile(t: &mut [u64], ends: Ends) -> Ends
+    requires { (ends.count + ends.count ≤ ends.top) × ((ends.top ≤ length t.old) × Sorted (take ends.count t.old)) }
+    ensures { Refiled ends.count ends.top t.old result.count result.top t.new }
 {
-    let mut ends = Ends { count: 0, top };
-    for i in 0..n {
+    let mut filed = Ends {
+        count: 0,
+        top: ends.top,
+    };
+    for i in 0..ends.count {
         let x = t[i];
-        ends = file(t, ends, x);
+        filed = file(t, filed, x);
     }
-    ends
+    filed
 }
 
 // The same for facts, where nothing is paired and the slice has no more than them.

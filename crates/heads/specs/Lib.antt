@@ -1,5 +1,4 @@
 -- The lists of a pool's header, changed in place, and a sheet written into its slot.
-pub mod Numbers
 pub mod Shift
 pub mod Lists
 pub mod Writes

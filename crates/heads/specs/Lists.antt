@@ -1,5 +1,6 @@
 -- A list of a pool's header one slot shorter or longer: the image of the state with that list. One law over the list's number.
 use Rattle.std.specs.Prelude.{◌≡◌, refl, List, [], ◌∷◌, ◌++◌, map}
+use Rattle.std.specs.Borrow.{MutBor}
 use Rattle.std.proofs.Common.{sym, ap₂, ◌∙◌, arith, append_assoc}
 use Rattle.std.proofs.Math.Path.{ap}
 use Prim.Native.Nat.{ℕ, zero, suc, ◌+◌, ◌-◌, ◌*◌, ◌/◌, ◌%◌, ◌≤◌, ◌<◌}
@@ -51,6 +52,10 @@ few_at (suc zero) s f = f.complete
 few_at (suc (suc j)) s f = f.bounded
 
 -- ---- what the calls do
+
+-- It is the same pool behind the reference, changed as R says, and as long as before.
+abbrev pub Changes : (Bytes → Bytes → Type 0) → MutBor Bytes → MutBor Bytes → Type 0
+Changes R a b = (b.ghost_name ≡ a.ghost_name) × R a.now b.now × (length b.now ≡ length a.now)
 
 abbrev pub Popped : ℕ → Bytes → Bytes → Type 0
 Popped j p p' = (lim : Limits) (s : State) → Few s → p ≡ pool_bytes lim s → (i : ℕ) (ws : List ℕ) → list_at j s ≡ i ∷ ws → p' ≡ pool_bytes lim (relisted j s ws)

@@ -5,50 +5,12 @@
 ghost use Rattle.std.specs.Prelude.{◌≡◌, ◌+◌, ◌*◌, ◌≤◌, ◌<◌, length, replicate};
 ghost use Rattle.octets.specs.Patch.{patched};
 ghost use Rattle.heads.specs.Shift.{moved_down, moved_up};
-ghost use Rattle.heads.specs.Numbers.{number_of};
-ghost use Rattle.heads.specs.Lists.{Popped, PushedBack, PushedFront};
-ghost use Rattle.settings.specs.Codes.{code_of_source};
+ghost use Rattle.heads.specs.Lists.{Changes, Popped, PushedBack, PushedFront};
+ghost use Rattle.settings.specs.Numbers.{number_of};
 ghost use Rattle.limits.specs.Limits.{limits_of, slot_at, slot_size};
 
 use limits::Limits;
-use settings::Source;
-use words::byte;
-
-// The lists of slots. Each is counted by a byte, and stands in 64 bytes.
-#[derive(Clone, Copy)]
-pub enum SlotList {
-    Waiting,
-    Complete,
-    Bounded,
-}
-
-impl SlotList {
-    // Where its count stands.
-    pub fn counted_at(self) -> usize
-        ensures { (result ≡ 12 + number_of self) × (number_of self < 3) }
-    {
-        12 + self as usize
-    }
-
-    // Where its slots begin.
-    pub fn starts_at(self) -> usize
-        ensures { (result ≡ 16 + 64 * number_of self) × (number_of self < 3) }
-    {
-        16 + 64 * (self as usize)
-    }
-}
-
-// The list that a call takes from.
-impl From<Source> for SlotList {
-    ghost from_gives = { λ s l. number_of l ≡ 1 + code_of_source s };
-
-    fn from(source: Source) -> SlotList {
-        match source {
-            Source::Complete => SlotList::Complete,
-            Source::Bounded => SlotList::Bounded,
-        }
-    }
-}
+use settings::{MOST_LISTED, SlotList};
 
 // The list at a place loses its first slot; those behind it move down.
 fn move_down(pool: &mut [u8], at: usize)
@@ -68,46 +30,52 @@ fn move_up(pool: &mut [u8], at: usize, slot: u8)
     pool[at] = slot;
 }
 
-// The first slot of a list goes.
-pub fn pop(pool: &mut [u8], list: SlotList)
-    requires { 208 ≤ length pool.old }
-    ensures { Popped (number_of list) pool.old pool.new }
-{
-    let count = list.counted_at();
-    let n = byte(pool, count);
-    if n == 0 {
-        return;
-    }
-    move_down(pool, list.starts_at());
-    pool[count] = (n - 1) as u8;
+// A pool, of which the head is there.
+#[derive(Drop)]
+pub struct Pool<'a> {
+    pub bytes: &'a mut [u8],
+    pub ghost headed: { 208 ≤ length bytes.now },
 }
 
-// A slot joins a list at its back.
-pub fn push_back(pool: &mut [u8], list: SlotList, slot: u64)
-    requires { 208 ≤ length pool.old }
-    ensures { PushedBack (number_of list) slot pool.old pool.new }
-{
-    let count = list.counted_at();
-    let n = byte(pool, count) as usize;
-    if n >= 64 {
-        return;
+impl Pool<'_> {
+    // The first slot of a list goes.
+    pub fn pop(&mut self, list: SlotList)
+        ensures { Changes (Popped (number_of list)) self.old.bytes self.new.bytes }
+    {
+        let count = list.counted_at();
+        let n = self.bytes[count];
+        if n == 0 {
+            return;
+        }
+        move_down(self.bytes, list.starts_at());
+        self.bytes[count] = n - 1;
     }
-    pool[list.starts_at() + n] = (slot % 256) as u8;
-    pool[count] = (n + 1) as u8;
-}
 
-// A slot joins a list at its front.
-pub fn push_front(pool: &mut [u8], list: SlotList, slot: u64)
-    requires { 208 ≤ length pool.old }
-    ensures { PushedFront (number_of list) slot pool.old pool.new }
-{
-    let count = list.counted_at();
-    let n = byte(pool, count);
-    if n >= 64 {
-        return;
+    // A slot joins a list at its back.
+    pub fn push_back(&mut self, list: SlotList, slot: u64)
+        ensures { Changes (PushedBack (number_of list) slot) self.old.bytes self.new.bytes }
+    {
+        let count = list.counted_at();
+        let n = self.bytes[count] as usize;
+        if n >= MOST_LISTED {
+            return;
+        }
+        self.bytes[list.starts_at() + n] = (slot % 256) as u8;
+        self.bytes[count] = (n + 1) as u8;
     }
-    move_up(pool, list.starts_at(), (slot % 256) as u8);
-    pool[count] = (n + 1) as u8;
+
+    // A slot joins a list at its front.
+    pub fn push_front(&mut self, list: SlotList, slot: u64)
+        ensures { Changes (PushedFront (number_of list) slot) self.old.bytes self.new.bytes }
+    {
+        let count = list.counted_at();
+        let n = self.bytes[count] as usize;
+        if n >= MOST_LISTED {
+            return;
+        }
+        move_up(self.bytes, list.starts_at(), (slot % 256) as u8);
+        self.bytes[count] = (n + 1) as u8;
+    }
 }
 
 // Zeros everywhere.

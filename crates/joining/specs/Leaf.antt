@@ -3,15 +3,14 @@ use Rattle.std.specs.Prelude.{◌≡◌, ℕ, ◌+◌, ◌≤◌, length, drop}
 use Rattle.std.proofs.Math.Path.{sym, ap, ap₂}
 use Rattle.std.proofs.Common.{◌∙◌, subst, arith, inl, drop_of_length-le}
 use mathlib.Core.List.{List, [], ◌++◌, map, append-nil}
-use Rattle.std.proofs.Math.ListN.{take, length-take, length-drop}
+use Rattle.std.proofs.Math.ListN.{take, length-drop}
 use lib.Seq.{drop_at, take_all, length-take-le, take-append-le}
 use borrow.Rule.Slice.PartMut.{put_mid}
 use Rattle.rules.specs.Image.{part}
 use Rattle.packing.specs.Replace.{replaced}
 use Rattle.renaming.specs.Order.{order_in, Sorted, order_sorts}
 use Rattle.filing.specs.File.{Files, refile_in, refact_in, Refiled, Refacted}
-use Rattle.joining.specs.Lent.{lent}
-use Rattle.joining.specs.Windows.{Elsewhere, elsewhere_then, elsewhere_table, Through}
+use Rattle.joining.specs.Windows.{Through}
 
 pub record JoinedKeys (s l n top : ℕ) (t : List ℕ) (count up : ℕ) (t' : List ℕ) : Type 0 where
   pub made : ◌≡◌ {A = Files} (take count t', drop up t') (refile_in (order_in (map (replaced s l) (take n t))) ([], map (replaced s l) (drop top t)))
@@ -19,11 +18,9 @@ pub record JoinedKeys (s l n top : ℕ) (t : List ℕ) (count up : ℕ) (t' : Li
   pub below : up ≤ top
   pub sum : count + top ≤ n + up
 
--- Facts from at on, with the places from spare on written over.
-pub record JoinedFacts (s l at n spare : ℕ) (w : List ℕ) (count : ℕ) (w' : List ℕ) : Type 0 where
-  pub made : part at count w' ≡ refact_in (order_in (map (replaced s l) (part at n w))) []
-  pub fewer : count ≤ n
-  pub elsewhere : Elsewhere at spare n w w'
+pub record JoinedFacts (s l : ℕ) (t : List ℕ) (count : ℕ) (t' : List ℕ) : Type 0 where
+  pub made : take count t' ≡ refact_in (order_in (map (replaced s l) t)) []
+  pub fewer : count ≤ length t
 
 module _ (s l n top k : ℕ) (t t₁ : List ℕ) (room : n + n ≤ top) (fits : top ≤ length t) (whole : top + k ≡ length t) (r : Through (replaced s l) 0 n n t t₁) where
   abbrev f : ℕ → ℕ
@@ -74,26 +71,9 @@ module _ (s l n top k : ℕ) (t t₁ : List ℕ) (room : n + n ≤ top) (fits : 
         sum = z.sum;
       }
 
-module _ (s l at n spare k : ℕ) (w w₁ : List ℕ) (whole : k ≡ n) (room : spare + n ≤ at) (fits : at + n ≤ length w) (r : Through (replaced s l) at n spare w w₁) where
-  facts : take k (drop at w₁) ≡ order_in (map (replaced s l) (part at n w))
-  unfolding part
-  facts = ap (λ j. take j (drop at w₁)) whole ∙ r.made
+module _ (s l : ℕ) (t t₁ : List ℕ) (r : t₁ ≡ order_in (map (replaced s l) t)) where
+  pub facts_sorted : Sorted t₁
+  facts_sorted = subst Sorted (sym r) (order_sorts (map (replaced s l) t))
 
-  pub facts_sorted : Sorted (take k (drop at w₁))
-  facts_sorted = subst Sorted (sym facts) (order_sorts (map (replaced s l) (part at n w)))
-
-  pub joined_facts : (count : ℕ) (u : List ℕ) → length u ≡ length (take k (drop at w₁)) → Refacted (take k (drop at w₁)) count u → JoinedFacts s l at n spare w count (put_mid at k w₁ u)
-  unfolding part
-  joined_facts count u size q =
-      let j = lent (λ x y. take count y ≡ refact_in x []) at n k w₁ u whole (omega (arith, r.elsewhere.size)) size q.made in
-      record {
-        made = front count (put_mid at k w₁ u) fewer ∙ j.made ∙ ap (λ (x : List ℕ). refact_in x []) r.made;
-        fewer = fewer;
-        elsewhere = elsewhere_then r.elsewhere (elsewhere_table j.kept);
-      }
-    where
-      front : (c : ℕ) (v : List ℕ) → c ≤ n → part at c v ≡ take c (part at n v)
-      front c v h = sym (lib.Seq.take-take c n (drop at v) h)
-
-      fewer : count ≤ n
-      fewer = omega (arith, q.fewer, whole, length-take k (drop at w₁))
+  pub joined_facts : (count : ℕ) (u : List ℕ) → length t₁ ≡ length t → Refacted t₁ count u → JoinedFacts s l t count u
+  joined_facts count u size q = record { made = q.made ∙ ap (λ (x : List ℕ). refact_in x []) r; fewer = omega (arith, q.fewer) }

@@ -1,6 +1,6 @@
 -- A region of a list that was lent and came back: all else is kept.
 use Rattle.std.specs.Prelude.{◌≡◌, ℕ, ◌+◌, ◌≤◌, List, ◌++◌, length, take}
-use Rattle.std.proofs.Common.{sym, ◌∙◌, subst, arith, append_assoc, length-append, length-drop, drop_at, drop-drop, length-take-le}
+use Rattle.std.proofs.Common.{sym, ◌∙◌, subst, subst₂, ap₂, arith, append_assoc, length-append, length-drop, drop_at, drop-drop, length-take-le}
 use Rattle.std.proofs.Math.Path.{ap}
 use Rattle.std.proofs.Math.ListN.{drop}
 use Rattle.std.proofs.Math.Seq.{take_at}
@@ -37,12 +37,12 @@ pub record Lent (P : List ℕ → List ℕ → Type 0) (at room : ℕ) (w w' : L
   pub made : P (part at room w) (part at room w')
 
 -- What a call made of the region that was lent to it.
-pub lent : (P : List ℕ → List ℕ → Type 0) (at room k : ℕ) (w ys : List ℕ) → k ≡ room → at + room ≤ length w → length ys ≡ length (take k (drop at w))
-    → P (take k (drop at w)) ys → Lent P at room w (put_mid at k w ys)
+pub lent : (P : List ℕ → List ℕ → Type 0) (at room a k : ℕ) (w ys : List ℕ) → length ys ≡ length (take k (drop a w)) → P (take k (drop a w)) ys
+    → a ≡ at → k ≡ room → at + room ≤ length w → Lent P at room w (put_mid a k w ys)
 unfolding part
-lent P at room k w ys e fits size j =
-    let whole : length ys ≡ room = size ∙ ap (λ n. length (take n (drop at w))) e ∙ part_size at room w fits in
-    subst (λ r. Lent P at room w (put_mid at r w ys)) (sym e) (record {
+lent P at room a k w ys size j i e fits =
+    let whole : length ys ≡ room = size ∙ ap₂ (λ m n. length (take n (drop m w))) i e ∙ part_size at room w fits in
+    subst₂ (λ m n. Lent P at room w (put_mid m n w ys)) (sym i) (sym e) (record {
       kept = kept_lent at room w ys fits whole;
-      made = subst (P (part at room w)) (sym (part_lent at room w ys fits whole)) (subst (λ r. P (take r (drop at w)) ys) e j);
+      made = subst (P (part at room w)) (sym (part_lent at room w ys fits whole)) (subst₂ (λ m n. P (take n (drop m w)) ys) i e j);
     })

@@ -12,6 +12,13 @@ limits_of l = record { elements = l.elements; keys = l.keys; facts = l.facts }
 abbrev pub slot_size : Limits → ℕ
 slot_size lim = 16 + 8 * lim.keys + 8 * lim.facts + lim.elements
 
+-- Behind sixteen bytes of counts a slot has its keys, then its facts, then its depths.
+abbrev pub slot_facts_at : Limits → ℕ
+slot_facts_at lim = 16 + 8 * lim.keys
+
+abbrev pub slot_depths_at : Limits → ℕ
+slot_depths_at lim = slot_facts_at lim + 8 * lim.facts
+
 abbrev pub slot_at : Limits → ℕ → ℕ
 slot_at lim i = 208 + slot_size lim * i
 

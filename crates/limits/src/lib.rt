@@ -3,7 +3,7 @@
 #![tactic(auto)]
 
 ghost use Rattle.std.specs.Prelude.{◌≡◌, ◌+◌, ◌<◌};
-ghost use Rattle.limits.specs.Limits.{limits_of, slot_size, slot_at, facts_at, depths_at, history_at};
+ghost use Rattle.limits.specs.Limits.{limits_of, slot_size, slot_facts_at, slot_depths_at, slot_at, facts_at, depths_at, history_at};
 
 // How many elements, keys and facts.
 #[derive(Clone, Copy)]
@@ -26,6 +26,9 @@ pub const HEAD: usize = 208;
 // Bytes of a slot.
 pub const SLOT: usize = 16 + 8 * LIMITS.keys + 8 * LIMITS.facts + LIMITS.elements;
 
+// Where the keys stand in a slot, behind its head.
+pub const SLOT_KEYS: usize = 16;
+
 // Entries of a working form.
 pub const FORM: usize = 6 + 2 * LIMITS.keys + LIMITS.facts + 2 * LIMITS.elements;
 
@@ -36,6 +39,22 @@ impl Limits {
         ensures { result ≡ slot_size (limits_of self) }
     {
         16 + 8 * self.keys + 8 * self.facts + self.elements
+    }
+
+    // Where the facts stand in a slot: behind the keys, each of eight bytes.
+    pub fn slot_facts_at(self) -> usize
+        requires { slot_facts_at (limits_of self) < 18446744073709551616 }
+        ensures { result ≡ slot_facts_at (limits_of self) }
+    {
+        SLOT_KEYS + 8 * self.keys
+    }
+
+    // Where the depths stand in a slot, behind the facts.
+    pub fn slot_depths_at(self) -> usize
+        requires { slot_depths_at (limits_of self) < 18446744073709551616 }
+        ensures { result ≡ slot_depths_at (limits_of self) }
+    {
+        self.slot_facts_at() + 8 * self.facts
     }
 
     // Where slot i stands in a pool.

@@ -40,10 +40,10 @@ module _ (e : Bytes) where
     second : take 1 (drop 1 e) ≡ get_or e 1 0 ∷ []
     second = ap (take 1) (drop-cons e 1 0 (omega arith))
 
-    last : take (length e - 7) (drop 7 e) ≡ get_or e 7 0 ∷ []
-    last = rw fits (ap (take 1) (drop-cons e 7 0 (omega arith)))
+    last : take 1 (drop 7 e) ≡ get_or e 7 0 ∷ []
+    last = ap (take 1) (drop-cons e 7 0 (omega arith))
 
-    pub key_parts : (p : Bytes) → (((((p ++ key_word) ++ fields (take 2 e)) ++ fields (args_in e)) ++ equals_word) ++ fields (take (length e - 7) (drop 7 e))) ++ newline ≡ p ++ key_line (key_in e)
+    pub key_parts : (p : Bytes) → (((((p ++ key_word) ++ fields (take 2 e)) ++ fields (args_in e)) ++ equals_word) ++ fields (take 1 (drop 7 e))) ++ newline ≡ p ++ key_line (key_in e)
     unfolding key_line key_in
     key_parts p = rw (first_two, last, fields_append (get_or e 0 0 ∷ get_or e 1 0 ∷ []) (args_in e)) (simp append_assoc)
 

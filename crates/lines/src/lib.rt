@@ -1,5 +1,5 @@
 // lines: the listing's lines, written on a page behind what stands there. What a line says is defined in specs/Text.antt. Entries of a
-// sheet are slices of its bytes, eight each (docs/FORMAT.md).
+// sheet are eight bytes each (docs/FORMAT.md).
 #![tactic(auto)]
 
 ghost use Rattle.std.specs.Prelude.{◌≡◌, ℕ, ◌+◌, ◌*◌, ◌^◌, ◌≤◌, ◌<◌, List, [], ◌∷◌, ◌++◌, length, take};
@@ -96,8 +96,8 @@ impl<const N: usize> Page<N> {
     }
 
     // The line of a key.
-    pub fn key_line(&mut self, entry: &[u8])
-        requires { (length entry.now ≡ ENTRY) × (length self.old + KEY_LINE ≤ N) }
+    pub fn key_line(&mut self, entry: &[u8; ENTRY])
+        requires { length self.old + KEY_LINE ≤ N }
         ensures text { self.new ≡ self.old ++ key_line (key_in entry.now) }
         ensures short { length self.new ≤ length self.old + KEY_LINE }
     {
@@ -110,8 +110,8 @@ impl<const N: usize> Page<N> {
     }
 
     // The line of a fact.
-    pub fn fact_line(&mut self, entry: &[u8])
-        requires { (length entry.now ≡ ENTRY) × (length self.old + FACT_LINE ≤ N) }
+    pub fn fact_line(&mut self, entry: &[u8; ENTRY])
+        requires { length self.old + FACT_LINE ≤ N }
         ensures text { self.new ≡ self.old ++ fact_line (fact_in entry.now) }
         ensures short { length self.new ≤ length self.old + FACT_LINE }
     {
@@ -146,8 +146,7 @@ impl<const N: usize> Page<N> {
 }
 
 // The arguments of an entry: as many as it counts, of the four that there are.
-fn arguments(entry: &[u8]) -> &[u8]
-    requires { length entry.now ≡ ENTRY }
+fn arguments(entry: &[u8; ENTRY]) -> &[u8]
     ensures value { result.now ≡ args_in entry.now }
     ensures few { length result.now ≤ 4 }
 {

@@ -1,6 +1,6 @@
 -- What a header says: its lists, its next number, and which slots no list names.
-use Rattle.std.specs.Prelude.{◌≡◌, refl, ℕ, suc, ◌+◌, ◌-◌, ◌≤◌, ◌<◌, min, Bool, true, false, not, ◌||◌, List, [], ◌∷◌, ◌++◌, length, get_or, take, drop, T, eqb}
-use Rattle.std.proofs.Common.{sym, ◌∙◌, subst, arith, add-one, length-drop, take-take, take_all, length-take-le}
+use Rattle.std.specs.Prelude.{◌≡◌, refl, ℕ, zero, suc, ◌-◌, ◌≤◌, ◌<◌, min, Bool, true, false, not, ◌||◌, List, [], ◌∷◌, ◌++◌, get_or, take, drop, T, eqb, Option, None, Some, MatchOption}
+use Rattle.std.proofs.Common.{sym, ◌∙◌, subst, arith, take-take, take_all, length-take}
 use Rattle.std.proofs.Math.Path.{ap}
 use Rattle.std.proofs.Math.Decide.{dec_le}
 use Rattle.std.specs.List.{list_any}
@@ -32,12 +32,11 @@ any_mem i [] = refl
 any_mem i (x ∷ xs) = ap (λ b. eqb i x || b) (any_mem i xs)
 
 -- A list is the front of its room.
-pub list_front : (at n : ℕ) (p : Bytes) → at + 64 ≤ length p → take (min n 64) (drop at p) ≡ list_in at n p
+pub list_front : (at n : ℕ) (p : Bytes) → take (min n 64) (drop at p) ≡ list_in at n p
 unfolding list_in part most_slots
-list_front at n p h = elim (dec_le n 64) [
+list_front at n p = elim (dec_le n 64) [
   | yes l ↦ (let e : min n 64 ≡ n = omega arith in ap (λ k. take k (drop at p)) e ∙ sym (take-take n 64 (drop at p) l))
-  | no l ↦ (let e : min n 64 ≡ 64 = omega arith in ap (λ k. take k (drop at p)) e
-      ∙ sym (take_all n (take 64 (drop at p)) (let z = length-take-le 64 (drop at p) (omega (arith, length-drop at p)) in omega arith)))
+  | no l ↦ (let e : min n 64 ≡ 64 = omega arith in ap (λ k. take k (drop at p)) e ∙ sym (take_all n (take 64 (drop at p)) (omega (arith, length-take 64 (drop at p)))))
 ]
 
 -- ---- the slots that no list names
@@ -52,9 +51,6 @@ pub record LowestFree (p : Bytes) (n r : ℕ) : Type 0 where
 
 abbrev pub FreeFrom : Bytes → ℕ → ℕ → Type 0
 FreeFrom p n i = keep (unnamed p) (from 0 n) ≡ keep (unnamed p) (from i (n - i))
-
-pub free_start : (p : Bytes) (n : ℕ) → FreeFrom p n 0
-free_start p n = let e : n - 0 ≡ n = omega arith in ap (λ k. keep (unnamed p) (from 0 k)) (sym e)
 
 from_more : (i n : ℕ) → i < n → from i (n - i) ≡ i ∷ from (suc i) (n - suc i)
 unfolding from
@@ -72,15 +68,22 @@ keep_no : (q : ℕ → Bool) (i : ℕ) (xs : List ℕ) → q i ≡ false → kee
 unfolding keep if
 keep_no q i xs e = ap (λ b. if b (λ _. i ∷ keep q xs) (λ _. keep q xs)) e
 
-module _ (p : Bytes) (n i : ℕ) (f : FreeFrom p n i) where
-  pub named_on : i < n → true ≡ mem i (in_use p) → FreeFrom p n (i + 1)
-  named_on h e = rw add-one (f ∙ ap (keep (unnamed p)) (from_more i n h) ∙ keep_no (unnamed p) i _ (ap not (sym e)))
+-- The first of n slots that no list names is the lowest that is free.
+module _ (p : Bytes) (n : ℕ) where
+  abbrev pub NamedBelow : ℕ → Type 0
+  NamedBelow r = (i : ℕ) → 0 ≤ i → i < r → true ≡ mem i (in_use p)
 
-  pub lowest_here : i < n → false ≡ mem i (in_use p) → LowestFree p n i
-  lowest_here h e = record { rest = f; here = λ _. subst (λ b. T (not b)) e tt }
+  pub named_on : (i : ℕ) → FreeFrom p n i → i < n → true ≡ mem i (in_use p) → FreeFrom p n (suc i)
+  named_on i f h e = f ∙ ap (keep (unnamed p)) (from_more i n h) ∙ keep_no (unnamed p) i _ (ap not (sym e))
 
-  pub lowest_none : n ≤ i → i ≤ n → LowestFree p n n
-  lowest_none h l = let e : i ≡ n = omega arith in record { rest = subst (FreeFrom p n) e f; here = λ z. absurd (omega arith) }
+  free_from : (r : ℕ) → r ≤ n → NamedBelow r → FreeFrom p n r
+  free_from zero l f = let e : n ≡ n - 0 = omega arith in ap (λ k. keep (unnamed p) (from 0 k)) e
+  free_from (suc r) l f = named_on r (free_from r (omega arith) (λ i k h. f i k (omega arith))) (omega arith) (f r (omega arith) (omega arith))
+
+  pub lowest_found : (r : Option ℕ) → MatchOption r (NamedBelow n) (λ i. (0 ≤ i) × (i < n) × (false ≡ mem i (in_use p)) × NamedBelow i)
+      → MatchOption r (LowestFree p n n) (λ i. (i < n) × LowestFree p n i)
+  lowest_found None f = record { rest = free_from n (omega arith) f; here = λ z. absurd (omega arith) }
+  lowest_found (Some i) f = (f.1, record { rest = free_from i (omega (arith, f.1)) f.3; here = λ _. subst (λ b. T (not b)) f.2 tt })
 
 -- So it is the first that is free.
 pub lowest_first : (p : Bytes) (n r : ℕ) → LowestFree p n r → r < n → keep (unnamed p) (from 0 n) ≡ r ∷ keep (unnamed p) (from (suc r) (n - suc r))

@@ -10,8 +10,8 @@ use Rattle.soundness.specs.Book.{WfTerm, WfTerms, WfLiteral}
 use Rattle.tables.specs.Table.{option_of}
 use Rattle.texts.specs.Names.{names_in}
 use Rattle.texts.specs.Text.{count, TermText, TermsText, LiteralText}
-use Rattle.look.specs.declared.Head.{Head}
-use Rattle.look.specs.declared.Head.TheVariants.{Leaf, Apply}
+use Rattle.nodes.specs.declared.Head.{Head}
+use Rattle.nodes.specs.declared.Head.TheVariants.{Leaf, Apply}
 use Rattle.look.specs.Shown.{Shown, FactsShown, Means}
 use Rattle.look.specs.Digits.{pack_args}
 
@@ -38,11 +38,6 @@ ArgsGood len at (Some r) = (at ≤ r.1) × (r.1 ≤ len)
 -- A value is an element.
 abbrev pub Octets : std.Option ℕ → Type 0
 Octets r = IfSome r (λ v. v < 256)
-
-abbrev pub HeadGood : ℕ → ℕ → std.Option (Head (std.Option ℕ)) → Type 0
-HeadGood len at None = Unit
-HeadGood len at (Some (Leaf v)) = (at + 4 ≤ len) × Octets v
-HeadGood len at (Some (Apply f n)) = (at + 4 ≤ len) × ((f < 65536) × (n < 65536))
 
 -- ---- what they are, for any model that is shown and any meanings
 

@@ -28,7 +28,9 @@ use Rattle.tables.specs.Carry.{find_is}
 use Rattle.texts.specs.Names.{names_in}
 use Rattle.texts.specs.Text.{count, TermText, TermsText}
 use Rattle.texts.specs.Parts.{term_grows, terms_grow}
-use Rattle.look.specs.declared.Head.TheVariants.{Leaf, Apply}
+use Rattle.nodes.specs.declared.Atom.TheVariants.{Variable, Constant}
+use Rattle.nodes.specs.declared.Head.TheVariants.{Leaf, Apply}
+use Rattle.nodes.specs.Heads.{HeadAt}
 use Rattle.look.specs.Shown.{Shown, Means, Plain, pack_meaning, declared_fits, find_octet, witness_look, witness_above}
 use Rattle.look.specs.Digits.{start, top, pack_args, pack_args_lem}
 use Rattle.look.specs.Answers.{as_look, as_args, IsVariable, At, Ats, IsLook, IsArgs, HeadIs}
@@ -237,6 +239,17 @@ module _ (book text : Bytes) (at k : ℕ) (env keys dom : List ℕ) (named : num
           fits = s.fits;
         };
       }
+
+-- The same of what was read there.
+module _ (book text : Bytes) (at : ℕ) (env keys dom : List ℕ) where
+  pub read_variable : (i : ℕ) → HeadAt book text at (Some (Leaf (Variable i))) → (v : std.Option ℕ) → IsVariable env i keys dom v → HeadIs book text at env keys dom (Some (Leaf v))
+  read_variable i h = head_variable book text at i env keys dom (sym h.1.1.0) h.0
+
+  pub read_constant : (c : ℕ) → HeadAt book text at (Some (Leaf (Constant c))) → (v : std.Option ℕ) → v ≡ option_of (look_in (start 1 c 0) keys) → HeadIs book text at env keys dom (Some (Leaf v))
+  read_constant c h = head_constant book text at c env keys dom (sym h.1.1.0) h.0
+
+  pub read_apply : (f n : ℕ) → HeadAt book text at (Some (Apply f n)) → HeadIs book text at env keys dom (Some (Apply f n))
+  read_apply f n h = head_apply book text at f env keys dom (sym h.1.0.1.0) h.0.0 h.0.1 n h.1.1.0
 
 -- ---- terms
 

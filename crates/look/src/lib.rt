@@ -1,17 +1,17 @@
 // look: the element of the term that stands at a place of a text, over the tables of a sheet, and whether a literal is observed.
-// The text is the part of the book that holds a sequent; arities come from the book's head. Nothing is copied: the tables are
-// read where they are, keys and facts by halving, an element through the listed domain.
+// A term is read by its head; its arguments are packed, each at its weight, into the number of its key. Nothing is copied: the tables
+// are read where they are, keys and facts by halving, an element through the listed domain.
 #![tactic(auto)]
 
-ghost use Rattle.std.specs.Prelude.{◌≡◌, ◌+◌, ◌*◌, ◌/◌, ◌≤◌, ◌<◌, length};
-ghost use Rattle.rules.specs.Reading.{num};
+ghost use Rattle.std.specs.Prelude.{◌≡◌, ◌+◌, ◌*◌, ◌/◌, ◌≤◌, ◌<◌, length, Some};
+ghost use Rattle.nodes.specs.Heads.{ClaimAt};
+ghost use Rattle.nodes.specs.declared.Claim.TheVariants.{Fact, Same};
 ghost use Rattle.tables.specs.Table.{Rising, rising_prop};
-ghost use Rattle.look.specs.Digits.{start, Roomy};
-ghost use Rattle.look.specs.Answers.{Octets, IsVariable, HeadGood, HeadIs, LookGood, ArgsGood, IsLook, IsArgs, IsObserved};
+ghost use Rattle.look.specs.Digits.{start, top, Roomy};
+ghost use Rattle.look.specs.Answers.{Octets, IsVariable, LookGood, ArgsGood, IsLook, IsArgs, IsObserved};
 
-use counts::{function_arity, relation_arity};
 use domains::known;
-use words::num16;
+use nodes::{Atom, Claim, Head, Text, claim_at, head_at};
 
 // The tables of a sheet: its packed keys with their values and its packed facts, each in order, and the elements that live.
 #[derive(Clone, Copy)]
@@ -23,33 +23,42 @@ pub struct Tables<'a> {
     pub ghost facts_rise: { Rising facts.now } by { rising_prop facts.now },
 }
 
-// What stands first in a term: a variable or a constant, by what is asked of it, or a function and its arity.
-#[derive(Clone, Copy)]
-pub enum Head<T> {
-    Leaf(T),
-    Apply(u64, u64),
-}
-
 // The weight of a key's first argument.
 pub const TOP: u64 = 16777216;
 
 // Packed keys are below this.
 pub const KEY_END: u64 = 72057594037927936;
 
-// The number of a key before its arguments.
-pub fn begin(kind: u64, symbol: u64, n: u64) -> u64
-    requires { (kind < 256) × ((symbol < 65536) × (n < 65536)) }
-    ensures { (result ≡ start kind symbol n) × Roomy result 16777216 }
-{
-    ((kind * 256 + symbol) * 256 + n) * 4294967296
+// The number of a key with the arguments so far, and the weight of the next one. However many follow, the number stays within 2 ^ 60.
+#[derive(Clone, Copy)]
+pub struct Packing {
+    pub number: u64,
+    pub weight: u64,
+    pub ghost roomy: { Roomy number weight },
 }
 
-// One argument more, at its weight.
-pub fn place(acc: u64, v: u64, w: u64) -> u64
-    requires { (v < 256) × Roomy acc w }
-    ensures { (result ≡ acc + v * w) × Roomy result (w / 256) }
-{
-    acc + v * w
+impl Packing {
+    // A key before its arguments.
+    pub fn begin(kind: u64, symbol: u64, n: u64) -> Packing
+        requires { (kind < 256) × ((symbol < 65536) × (n < 65536)) }
+        ensures { (result.number ≡ start kind symbol n) × (result.weight ≡ top) }
+    {
+        Packing {
+            number: ((kind * 256 + symbol) * 256 + n) * 4294967296,
+            weight: TOP,
+        }
+    }
+
+    // One argument more, at its weight.
+    pub fn place(self, v: u64) -> Packing
+        requires { v < 256 }
+        ensures { (result.number ≡ self.number + v * self.weight) × (result.weight ≡ self.weight / 256) }
+    {
+        Packing {
+            number: self.number + v * self.weight,
+            weight: self.weight / 256,
+        }
+    }
 }
 
 // The element that a variable stands for: itself if it lives, or the value of its witness.
@@ -63,111 +72,80 @@ pub fn look_variable(env: &[u64], i: u64, t: &Tables<'_>) -> Option<u64>
     if known(t.domain, x) { Some(x) } else { None }
 }
 
-// What stands first in the term at a place, if there is enough text.
-fn term_head(
-    book: &[u8],
-    text: &[u8],
-    at: usize,
-    env: &[u64],
-    t: &Tables<'_>,
-) -> Option<Head<Option<u64>>>
-    requires { at ≤ length text.now }
-    ensures head_good { HeadGood (length text.now) at result }
-    ensures head_is { HeadIs book.now text.now at env.now t.now.keys.now t.now.domain.now result }
-{
-    if text.len() - at < 4 {
-        return None;
-    }
-    let k = num16(text, at + 2);
-    Some(match num16(text, at) {
-        0 => Head::Leaf(look_variable(env, k, t)),
-        1 => Head::Leaf(tables::look(t.keys, begin(1, k, 0))),
-        _ => Head::Apply(k, function_arity(book, k)),
-    })
-}
-
 // The element of the term at a place, and the place behind the term.
 #[cycle(look_list_look_term)]
-pub fn look_term(
-    book: &[u8],
-    text: &[u8],
-    at: usize,
-    env: &[u64],
-    t: &Tables<'_>,
-) -> Option<(u64, usize)>
-    requires { at ≤ length text.now }
-    ensures look_good { LookGood (length text.now) at result }
-    ensures look { IsLook book.now text.now at env.now t.now.keys.now t.now.domain.now result }
+pub fn look_term(s: &Text<'_>, at: usize, env: &[u64], t: &Tables<'_>) -> Option<(u64, usize)>
+    requires { at ≤ length s.now.bytes.now }
+    ensures look_good { LookGood (length s.now.bytes.now) at result }
+    ensures look { IsLook s.now.book.now s.now.bytes.now at env.now t.now.keys.now t.now.domain.now result }
 {
-    match term_head(book, text, at, env, t)? {
-        Head::Leaf(v) => Some((v?, at + 4)),
+    match head_at(s, at)? {
+        Head::Leaf(Atom::Variable(i)) => Some((look_variable(env, i, t)?, at + 4)),
+        Head::Leaf(Atom::Constant(c)) => {
+            let key = Packing::begin(1, c, 0).number;
+            Some((tables::look(t.keys, key)?, at + 4))
+        }
         Head::Apply(f, n) => {
-            let (p, e) = look_list(book, text, at + 4, n, begin(2, f, n), TOP, env, t)?;
+            let (p, e) = look_list(s, at + 4, n, Packing::begin(2, f, n), env, t)?;
             Some((tables::look(t.keys, p)?, e))
         }
     }
 }
 
-// The arguments at a place, so many, packed behind a number from a weight on; and the place behind them.
+// The number of a key with so many arguments more, which stand at a place; and the place behind them.
 #[cycle(look_list_look_term)]
 pub fn look_list(
-    book: &[u8],
-    text: &[u8],
+    s: &Text<'_>,
     at: usize,
     count: u64,
-    acc: u64,
-    w: u64,
+    acc: Packing,
     env: &[u64],
     t: &Tables<'_>,
 ) -> Option<(u64, usize)>
-    requires { (at ≤ length text.now) × Roomy acc w }
-    ensures args_good { ArgsGood (length text.now) at result }
-    ensures args { IsArgs book.now text.now at count acc w env.now t.now.keys.now t.now.domain.now result }
+    requires { at ≤ length s.now.bytes.now }
+    ensures args_good { ArgsGood (length s.now.bytes.now) at result }
+    ensures args { IsArgs s.now.book.now s.now.bytes.now at count acc.number acc.weight env.now t.now.keys.now t.now.domain.now result }
 {
     if count == 0 {
-        return Some((acc, at));
+        return Some((acc.number, at));
     }
-    let (v, e) = look_term(book, text, at, env, t)?;
-    look_list(book, text, e, count - 1, place(acc, v, w), w / 256, env, t)
+    let (v, e) = look_term(s, at, env, t)?;
+    look_list(s, e, count - 1, acc.place(v), env, t)
 }
 
-// A fact: all its terms have elements, and it is held.
-fn fact_observed(book: &[u8], text: &[u8], at: usize, env: &[u64], t: &Tables<'_>) -> bool
-    requires { at + 4 ≤ length text.now }
-    ensures { num text.now at ≡ 0 → IsObserved book.now text.now at env.now t.now.keys.now t.now.facts.now t.now.domain.now result }
+// A fact, of a relation to so many terms: all its terms have elements, and it is held.
+fn fact_observed(s: &Text<'_>, at: usize, r: u64, n: u64, env: &[u64], t: &Tables<'_>) -> bool
+    requires { ClaimAt s.now.book.now s.now.bytes.now at (Some (Fact r n)) }
+    ensures { IsObserved s.now.book.now s.now.bytes.now at env.now t.now.keys.now t.now.facts.now t.now.domain.now result }
 {
-    let r = num16(text, at + 2);
-    let n = relation_arity(book, r);
-    match look_list(book, text, at + 4, n, begin(0, r, n), TOP, env, t) {
+    match look_list(s, at + 4, n, Packing::begin(0, r, n), env, t) {
         None => false,
         Some((p, _)) => tables::contains(t.facts, p),
     }
 }
 
 // An identity: both sides have the same element.
-fn same_observed(book: &[u8], text: &[u8], at: usize, env: &[u64], t: &Tables<'_>) -> bool
-    requires { at + 4 ≤ length text.now }
-    ensures { (num text.now at ≡ 0 → ⊥) → IsObserved book.now text.now at env.now t.now.keys.now t.now.facts.now t.now.domain.now result }
+fn same_observed(s: &Text<'_>, at: usize, env: &[u64], t: &Tables<'_>) -> bool
+    requires { ClaimAt s.now.book.now s.now.bytes.now at (Some Same) }
+    ensures { IsObserved s.now.book.now s.now.bytes.now at env.now t.now.keys.now t.now.facts.now t.now.domain.now result }
 {
-    let Some((a, e)) = look_term(book, text, at + 2, env, t) else {
+    let Some((a, e)) = look_term(s, at + 2, env, t) else {
         return false;
     };
-    let Some((b, _)) = look_term(book, text, e, env, t) else {
+    let Some((b, _)) = look_term(s, e, env, t) else {
         return false; // both sides are wanted
     };
     a == b
 }
 
 // Is the literal at a place observed?
-pub fn observed(book: &[u8], text: &[u8], at: usize, env: &[u64], t: &Tables<'_>) -> bool
-    requires { at ≤ length text.now }
-    ensures { IsObserved book.now text.now at env.now t.now.keys.now t.now.facts.now t.now.domain.now result }
+pub fn observed(s: &Text<'_>, at: usize, env: &[u64], t: &Tables<'_>) -> bool
+    requires { at ≤ length s.now.bytes.now }
+    ensures { IsObserved s.now.book.now s.now.bytes.now at env.now t.now.keys.now t.now.facts.now t.now.domain.now result }
 {
-    if text.len() - at < 4 {
-        return false;
+    match claim_at(s, at) {
+        None => false,
+        Some(Claim::Fact(r, n)) => fact_observed(s, at, r, n, env, t),
+        Some(Claim::Same) => same_observed(s, at, env, t),
     }
-    if num16(text, at) == 0 {
-        return fact_observed(book, text, at, env, t);
-    }
-    same_observed(book, text, at, env, t)
 }

@@ -1,6 +1,7 @@
 -- What a packed key gives its value, and depths lowered by it, by a pass over the keys, and by passes until none lowers.
-use Rattle.std.specs.Prelude.{◌≡◌, ℕ, zero, suc, ◌+◌, ◌≤◌, ◌<◌, min, max, List, [], ◌∷◌, get_or, set, eqb, ltb}
-use Rattle.std.proofs.Math.Path.{sym}
+use Rattle.std.specs.Prelude.{◌≡◌, ℕ, zero, suc, ◌+◌, ◌≤◌, ◌<◌, min, max, List, [], ◌∷◌, map, get_or, set, eqb, ltb}
+use Rattle.std.specs.List.{range_with_len, fold}
+use Rattle.std.proofs.Math.Path.{sym, ap}
 use native.Mathlib.Omega.{arith}
 use Rattle.std.proofs.Common.{lt→ltb, eqb→eq}
 use Rattle.std.proofs.Math.Dec.{ltb→lt, not_T}
@@ -47,6 +48,16 @@ module _ (ds : List ℕ) (x : ℕ) where
   unfolding arg_depth
   arg_none i h = sym (if_false (ltb i (count_of x)) _ _ (not_T (ltb i (count_of x)) (λ t. let l = ltb→lt i (count_of x) t in omega arith)))
 
+  -- The greatest over the arguments that are there.
+  pub greatest_is : (n : ℕ) → n ≡ min (count_of x) 4 → fold max 0 (map (λ i. get_or ds (arg_of x i) 0) (range_with_len 0 n)) ≡ deepest ds x
+  unfolding deepest
+  greatest_is zero e = omega (arith, arg_none 0 (omega arith), arg_none 1 (omega arith), arg_none 2 (omega arith), arg_none 3 (omega arith))
+  greatest_is (suc zero) e = omega (arith, arg_there 0 (omega arith), arg_none 1 (omega arith), arg_none 2 (omega arith), arg_none 3 (omega arith))
+  greatest_is (suc (suc zero)) e = omega (arith, arg_there 0 (omega arith), arg_there 1 (omega arith), arg_none 2 (omega arith), arg_none 3 (omega arith))
+  greatest_is (suc (suc (suc zero))) e = omega (arith, arg_there 0 (omega arith), arg_there 1 (omega arith), arg_there 2 (omega arith), arg_none 3 (omega arith))
+  greatest_is (suc (suc (suc (suc zero)))) e = omega (arith, arg_there 0 (omega arith), arg_there 1 (omega arith), arg_there 2 (omega arith), arg_there 3 (omega arith))
+  greatest_is (suc (suc (suc (suc (suc n))))) e = absurd (omega arith)
+
   pub over_none : count_of x ≡ 0 → over_in ds x ≡ 0
   unfolding over_in
   over_none h = if_true (eqb (count_of x) 0) _ _ (eq→eqb (count_of x) 0 h)
@@ -59,6 +70,11 @@ module _ (ds : List ℕ) (x : ℕ) where
   unfolding lowest
   lowest_none h = let o = over_none h in omega arith
 
+  pub lowest_some : (count_of x ≡ 0 → ⊥) → lowest ds x ≡ min (get_or ds (value_of x) 0) (suc (deepest ds x))
+  unfolding lowest
+  lowest_some h = ap (min (get_or ds (value_of x) 0)) (over_some h)
+
+  -- What the key gives is less, or it is not.
   pub lowest_less : (count_of x ≡ 0 → ⊥) → deepest ds x < get_or ds (value_of x) 0 → deepest ds x + 1 ≡ lowest ds x
   unfolding lowest
   lowest_less h l = let o = over_some h in omega arith

@@ -1,9 +1,9 @@
 // Depths lowered through packed keys until none falls. An element that has no depth in the slice has depth 0.
 #![tactic(auto)]
 
-ghost use Rattle.std.specs.Prelude.{◌≡◌, ◌<◌, get_or};
+ghost use Rattle.std.specs.Prelude.{◌≡◌, get_or};
 ghost use Rattle.rules.specs.Merge.{sum};
-ghost use Rattle.lowering.specs.Lower.{arg_depth, deepest, lowest, lower_in};
+ghost use Rattle.lowering.specs.Lower.{deepest, lowest, lower_in};
 ghost use Rattle.lowering.specs.Rest.{LoweredAt, LoweredBy};
 
 // The depth of an element.
@@ -13,32 +13,18 @@ pub fn depth(depths: &[u64], e: u64) -> u64
     depths.get(e as usize).map_or(0, |d| *d)
 }
 
-// The depth of the entry's i-th argument; behind its arguments, 0.
-#[tactic(auto, using(crate::specs::Lower::arg_there, crate::specs::Lower::arg_none))]
-fn argument_depth(depths: &[u64], x: u64, i: u64) -> u64
-    requires { i < 4 }
-    ensures { result ≡ arg_depth depths.now x i }
-{
-    if i < packing::count(x) {
-        depth(depths, packing::argument(x, i))
-    } else {
-        0
-    }
-}
-
 // The greatest depth of the entry's arguments.
-#[tactic(auto, unfolding(crate::specs::Lower::deepest))]
 fn deepest(depths: &[u64], x: u64) -> u64
     ensures { result ≡ deepest depths.now x }
 {
-    let front = argument_depth(depths, x, 0).max(argument_depth(depths, x, 1));
-    let back = argument_depth(depths, x, 2).max(argument_depth(depths, x, 3));
-    front.max(back)
+    (0..packing::count(x).min(4))
+        .map(|i| depth(depths, packing::argument(x, i)))
+        .fold(0, u64::max)
 }
 
-// The depth of the entry's value, no more than what the entry gives it: one more than the greatest depth, where that is less, so that it
-// cannot wrap.
-#[tactic(auto, using(crate::specs::Lower::lowest_none, crate::specs::Lower::lowest_less, crate::specs::Lower::lowest_same))]
+// The depth of the entry's value, no more than what the entry gives it: one more than the greatest depth, or the most that a number can
+// be, so that it cannot wrap.
+#[tactic(auto, using(crate::specs::Lower::lowest_none, crate::specs::Lower::lowest_some))]
 fn lowest(depths: &[u64], x: u64) -> u64
     ensures { result ≡ lowest depths.now x }
 {
@@ -46,8 +32,7 @@ fn lowest(depths: &[u64], x: u64) -> u64
         return 0;
     }
     let old = depth(depths, packing::value(x));
-    let over = deepest(depths, x);
-    if over < old { over + 1 } else { old }
+    deepest(depths, x).saturating_add(1).min(old)
 }
 
 // The value's depth lowered by one key. Has it fallen?
@@ -82,6 +67,7 @@ pub fn lower(keys: &[u64], depths: &mut [u64])
     ensures { depths.new ≡ lower_in (sum depths.old) keys.now depths.old }
 {
     let mut fell = true;
+    // A `while`: a pass may leave a depth for the next one to lower, so how many there are is not known before.
     while fell {
         fell = lower_by(keys, depths);
     }

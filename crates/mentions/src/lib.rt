@@ -6,6 +6,7 @@ ghost use Rattle.texts.specs.Names.{names_in};
 ghost use Rattle.mentions.specs.Nodes.{node_is, nodes_have, Mentions};
 ghost use Rattle.mentions.specs.Rows.{MentionsOne};
 
+use nodes::{Claim, Text, claim_at};
 use skips::skip_literal;
 use words::num16;
 
@@ -34,31 +35,29 @@ fn span_has(text: &[u8], b: usize, e: usize, v: u64) -> bool
 }
 
 // Is the variable in the literal at a place?
-pub fn literal_mentions(book: &[u8], text: &[u8], at: usize, v: u64) -> bool
-    requires { (at ≤ length text.now) × (length text.now ≤ 32768) }
-    ensures { Mentions (names_in book.now) text.now v at result }
+pub fn literal_mentions(s: &Text<'_>, at: usize, v: u64) -> bool
+    requires { at ≤ length s.now.bytes.now }
+    ensures { Mentions (names_in s.now.book.now) s.now.bytes.now v at result }
 {
-    if text.len() - at < 4 {
-        return false;
+    let e = skip_literal(s, at);
+    match claim_at(s, at) {
+        None => false,
+        Some(Claim::Fact(..)) => span_has(s.bytes, at + 4, e, v),
+        Some(Claim::Same) => span_has(s.bytes, at + 2, e, v),
     }
-    let e = skip_literal(book, text, at);
-    if num16(text, at) == 0 {
-        return span_has(text, at + 4, e, v);
-    }
-    span_has(text, at + 2, e, v)
 }
 
 // Is it in one of n literals from a place on?
-pub fn mentioned(book: &[u8], text: &[u8], at: usize, n: u64, v: u64) -> bool
-    requires { (at ≤ length text.now) × (length text.now ≤ 32768) }
-    ensures { MentionsOne (names_in book.now) text.now v at n result }
+pub fn mentioned(s: &Text<'_>, at: usize, n: u64, v: u64) -> bool
+    requires { at ≤ length s.now.bytes.now }
+    ensures { MentionsOne (names_in s.now.book.now) s.now.bytes.now v at n result }
 {
     let mut p = at;
     for _ in 0..n {
-        if literal_mentions(book, text, p, v) {
+        if literal_mentions(s, p, v) {
             return true;
         }
-        p = skip_literal(book, text, p);
+        p = skip_literal(s, p);
     }
     false
 }

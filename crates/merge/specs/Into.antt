@@ -2,11 +2,12 @@
 use Rattle.std.specs.Prelude.{◌≡◌, refl, ℕ, ◌+◌, ◌-◌, ◌≤◌, ◌<◌, length, get_or, take, drop, set}
 use Rattle.std.proofs.Math.Path.{sym, subst}
 use Rattle.std.proofs.Common.{ap, ap₂, ◌∙◌, arith, inl, inr, get_or-set_same, get_or-set_other, lt-length-set, take-take}
-use mathlib.Core.List.{List, [], map}
+use mathlib.Core.List.{List, [], ◌++◌, map}
+use borrow.Rule.Slice.PartMut.{put_mid, mid_of}
 use Rattle.rules.specs.Sheet.{Limits}
 use Rattle.rules.specs.Image.{part}
 use Rattle.rules.specs.Merge.{merge_depths}
-use Rattle.images.specs.Kept.{Kept, kept_then, kept_set, kept_count, kept_before, kept_behind, part_at, part_drop}
+use Rattle.images.specs.Kept.{Kept, kept_then, kept_set, kept_count, kept_before, kept_behind, part_at, part_drop, part_size}
 use Rattle.packing.specs.Replace.{replaced}
 use Rattle.tables.specs.Table.{Rising}
 use Rattle.renaming.specs.Order.{order_in, Sorted}
@@ -14,8 +15,9 @@ use Rattle.filing.specs.File.{Files, refile_in, refact_in, refile_rises, refact_
 use Rattle.limits.specs.Limits.{keys_at, facts_at, depths_at, history_at, form_size}
 use Rattle.sheets.specs.Form.{Formed}
 use Rattle.joining.specs.Leaf.{JoinedFacts}
+use Rattle.joining.specs.Windows.{beside_back}
 use Rattle.joining.specs.Work.{Work, into_in}
-use Rattle.merge.specs.Regions.{KeysAt, RegionAt}
+use Rattle.merge.specs.Regions.{FactsAt, KeysAt, RegionAt}
 
 -- Room for keys and pairs together.
 abbrev pub keys_room : Limits → ℕ
@@ -57,9 +59,18 @@ pub record IntoForm (lim : Limits) (s l top : ℕ) (w : List ℕ) (up : ℕ) (w'
   pub below : up ≤ top
   pub sum : get_or w' 3 0 + top ≤ get_or w 3 0 + up
 
+-- The list was cut at the facts, and they were joined, with places behind the keys written over.
+pub facts_lent : (lim : Limits) (s l left : ℕ) (w : List ℕ) → Formed lim w → Orderly lim w → (at k : ℕ) (fr ba ys zs : List ℕ) → at ≡ facts_at lim → k ≡ get_or w 4 0
+    → fr ≡ take at w → ba ≡ drop at w → length ys ≡ length (take (get_or w 4 0) ba) → length zs ≡ length (mid_of (keys_at + get_or w 3 0) k fr)
+    → JoinedFacts s l (take (get_or w 4 0) ba) left ys
+    → FactsAt (facts_at lim) (get_or w 4 0) (keys_at + get_or w 3 0) s l w left (put_mid (keys_at + get_or w 3 0) k fr zs ++ (ys ++ drop (get_or w 4 0) ba))
+facts_lent lim s l left w g o at k fr ba ys zs a e f b y z j =
+    beside_back (λ t u. JoinedFacts s l t left u) (facts_at lim) (get_or w 4 0) (keys_at + get_or w 3 0) k w fr ba ys zs e
+    (omega (arith, g.keys, g.facts, o.even)) (omega (arith, g.size, g.facts)) (f ∙ ap (λ m. take m w) a) (b ∙ ap (λ m. drop m w) a) y z j
+
 -- What joining facts has left alone: the counts, and whatever is apart from the facts and from the room behind the keys.
 module _ (lim : Limits) (s l left : ℕ) (w w₁ : List ℕ) (g : Formed lim w) (o : Orderly lim w)
-    (f : JoinedFacts s l (facts_at lim) (get_or w 4 0) (keys_at + get_or w 3 0) w left w₁) where
+    (f : FactsAt (facts_at lim) (get_or w 4 0) (keys_at + get_or w 3 0) s l w left w₁) where
   few : get_or w 3 0 + get_or w 4 0 ≤ lim.keys + lim.keys
   few = omega (arith, g.keys, g.facts, o.even)
 
@@ -84,8 +95,11 @@ module _ (lim : Limits) (s l left : ℕ) (w w₁ : List ℕ) (g : Formed lim w) 
   size₁ : length w₁ ≡ form_size lim
   size₁ = f.elsewhere.size ∙ g.size
 
+  fewer₁ : left ≤ get_or w 4 0
+  fewer₁ = omega (arith, f.made.fewer, part_size (facts_at lim) (get_or w 4 0) w (omega (arith, g.size, g.facts)))
+
 module _ (lim : Limits) (s l top count up left : ℕ) (w w₁ w₂ w₃ w₄ : List ℕ) (g : Formed lim w) (o : Orderly lim w) (behind : get_or w 3 0 + lim.keys ≤ top) (fits : top ≤ keys_room lim)
-    (f : JoinedFacts s l (facts_at lim) (get_or w 4 0) (keys_at + get_or w 3 0) w left w₁) (k : KeysAt keys_at (keys_room lim) (get_or w 3 0) top s l w₁ count up w₂)
+    (f : FactsAt (facts_at lim) (get_or w 4 0) (keys_at + get_or w 3 0) s l w left w₁) (k : KeysAt keys_at (keys_room lim) (get_or w 3 0) top s l w₁ count up w₂)
     (d : RegionAt (merge_depths s l) (depths_at lim) (get_or w 2 0) w₂ w₃) (h : RegionAt (map (replaced s l)) (history_at lim) lim.elements w₃ w₄) where
   abbrev w₅ : List ℕ
   w₅ = set (set w₄ 3 count) 4 left
@@ -95,6 +109,9 @@ module _ (lim : Limits) (s l top count up left : ℕ) (w w₁ w₂ w₃ w₄ : L
 
   size₄ : length w₄ ≡ form_size lim
   size₄ = h.kept.size ∙ d.kept.size ∙ k.kept.size ∙ size₁ lim s l left w w₁ g o f
+
+  fewer : left ≤ get_or w 4 0
+  fewer = fewer₁ lim s l left w w₁ g o f
 
   -- Counts before the regions.
   count₄ : (i : ℕ) → i < 5 → get_or w₄ i 0 ≡ get_or w i 0
@@ -111,7 +128,7 @@ module _ (lim : Limits) (s l top count up left : ℕ) (w w₁ w₂ w₃ w₄ : L
   fewest = record {
     kept = λ i j. kept_count counts i j ∙ count₄ i (omega arith);
     keys = omega (arith, keys₅, k.made.fewer);
-    facts = omega (arith, facts₅, f.fewer);
+    facts = omega (arith, facts₅, fewer);
   }
 
   -- Each region as it was when it came back.
@@ -122,8 +139,8 @@ module _ (lim : Limits) (s l top count up left : ℕ) (w w₁ w₂ w₃ w₄ : L
 
   region_facts : part (facts_at lim) left w₅ ≡ part (facts_at lim) left w₁
   region_facts =
-      kept_behind counts (facts_at lim) left (omega arith) ∙ kept_before h.kept (facts_at lim) left (omega (arith, f.fewer, g.facts))
-      ∙ kept_before d.kept (facts_at lim) left (omega (arith, f.fewer, g.facts)) ∙ kept_behind k.kept (facts_at lim) left (omega arith)
+      kept_behind counts (facts_at lim) left (omega arith) ∙ kept_before h.kept (facts_at lim) left (omega (arith, fewer, g.facts))
+      ∙ kept_before d.kept (facts_at lim) left (omega (arith, fewer, g.facts)) ∙ kept_behind k.kept (facts_at lim) left (omega arith)
 
   region_depths : part (depths_at lim) (get_or w 2 0) w₅ ≡ merge_depths s l (part (depths_at lim) (get_or w 2 0) w)
   region_depths =
@@ -152,7 +169,7 @@ module _ (lim : Limits) (s l top count up left : ℕ) (w w₁ w₂ w₃ w₄ : L
       (sym (front_part keys_at (get_or w 3 0) (keys_room lim) w₁ (omega (arith, g.keys))) ∙ keys₁ lim s l left w w₁ g o f) (pairs₁ lim s l left w w₁ g o f top behind fits)
 
   facted : part (facts_at lim) (get_or w₅ 4 0) w₅ ≡ refact_in (order_in (map (replaced s l) (part (facts_at lim) (get_or w 4 0) w))) []
-  facted = ap (λ n. part (facts_at lim) n w₅) facts₅ ∙ region_facts ∙ f.made
+  facted = ap (λ n. part (facts_at lim) n w₅) facts₅ ∙ region_facts ∙ front_part (facts_at lim) left (get_or w 4 0) w₁ fewer ∙ f.made.made
 
   pub into_made : IntoForm lim s l top w up w₅
   unfolding into_in Rising

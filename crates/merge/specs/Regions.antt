@@ -1,4 +1,4 @@
--- What joining makes of the keys' region, and of a region that goes through a function.
+-- What joining makes of the regions of keys and of facts, and of a region that goes through a function.
 use Rattle.std.specs.Prelude.{◌≡◌, ℕ, ◌+◌, ◌≤◌, List, ◌++◌, length, take, drop}
 use Rattle.std.proofs.Common.{sym, ap, ap₂, ◌∙◌, subst, arith, take-take}
 use Rattle.rules.specs.Image.{part}
@@ -6,11 +6,16 @@ use Rattle.rules.specs.Merge.{sum}
 use Rattle.images.specs.Kept.{Kept, drop_take}
 use Rattle.lowering.specs.Lower.{lower_in}
 use Rattle.renaming.specs.Order.{Sorted}
-use Rattle.joining.specs.Leaf.{JoinedKeys}
+use Rattle.joining.specs.Leaf.{JoinedKeys, JoinedFacts}
 use Rattle.joining.specs.Lent.{Lent, kept_lent, part_lent}
+use Rattle.joining.specs.Windows.{Beside}
 
 abbrev pub KeysAt : (at room n top s l : ℕ) (w : List ℕ) (count up : ℕ) (w' : List ℕ) → Type 0
 KeysAt at room n top s l w count up w' = Lent (λ t u. JoinedKeys s l n top t count up u) at room w w'
+
+-- What joining makes of the facts' region, with as many places from spare on written over.
+abbrev pub FactsAt : (at n spare s l : ℕ) (w : List ℕ) (count : ℕ) (w' : List ℕ) → Type 0
+FactsAt at n spare s l w count w' = Beside (λ t u. JoinedFacts s l t count u) at n spare w w'
 
 -- A region that went through a function.
 abbrev pub RegionAt : (f : List ℕ → List ℕ) (at n : ℕ) (w w' : List ℕ) → Type 0

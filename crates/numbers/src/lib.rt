@@ -108,6 +108,7 @@ pub fn read_declared(book: &[u8], count: u64, at: usize) -> Value
     Ok((x, e))
 }
 
+// One letter of the mark.
 pub fn read_mark(book: &[u8], letter: u64, at: usize) -> Value
     ensures { reading result ≡ mark_byte letter book.now at }
 {

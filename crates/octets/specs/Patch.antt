@@ -1,12 +1,12 @@
 -- A list with some of its entries written over, and patches one behind the other.
-use Rattle.std.specs.Prelude.{◌≡◌, get_or, drop, set}
+use Rattle.std.specs.Prelude.{◌≡◌, refl, get_or, drop, set}
 use Rattle.std.proofs.Math.Path.{sym, ap, ap₂}
 use Rattle.std.proofs.Common.{◌∙◌, add-zero, mul-zero, arith, add-one, length-take, length-drop, take-append-drop, drop_of_length-le, drop-drop, length-take-le, take_at, take_all}
-use Prim.Native.Nat.{ℕ, suc, ◌+◌, ◌-◌, ◌*◌, ◌≤◌, ◌<◌}
-use Rattle.std.proofs.Math.Nat.{mul-suc}
+use Prim.Native.Nat.{ℕ, zero, suc, ◌+◌, ◌-◌, ◌*◌, ◌≤◌, ◌<◌}
+use Rattle.std.proofs.Math.Nat.{mul-suc, mul-sub}
 use mathlib.Core.List.{List, [], ◌∷◌, ◌++◌, append_assoc, append-nil, map}
-use Rattle.std.proofs.Math.ListN.{length, take, replicate, length-append, length-replicate}
-use Rattle.std.proofs.lemmas.List.{set_split}
+use Rattle.std.proofs.Math.ListN.{length, take, replicate, length-append, length-replicate, replicate-append-replicate}
+use Rattle.std.proofs.lemmas.List.{get_or-replicate, set_split}
 use Rattle.std.proofs.Math.Seq.{take-suc, drop-append-add, append_snoc}
 use borrow.Rule.Slice.PartMut.{put_mid, mid_of, mid_len}
 use Rattle.base.specs.Lists.{flat}
@@ -90,6 +90,29 @@ module _ (k : ℕ) (f : ℕ → List ℕ) (sized : (x : ℕ) → length (f x) �
     where
       within : (a m : ℕ) (w : List ℕ) → a + m ≤ length w → length (mid_of a m w) ≡ m
       within a m w h = length-take-le m (drop a w) (omega (arith, length-drop a w))
+
+  -- Zeros behind the entries are entries of zeros.
+  pub flat_padded : f 0 ≡ replicate k 0 → (room : ℕ) (xs : List ℕ) → length xs ≤ room → flat (map f (padded room xs)) ≡ padded (k * room) (flat (map f xs))
+  unfolding padded flat
+  flat_padded z room xs h =
+      let d : k * (room - length xs) ≡ k * room - length (flat (map f xs)) = mul-sub k room (length xs) ∙ ap (λ n. k * room - n) (sym (flat_length xs)) in
+      rw (map_append, flat_append) (ap (λ (l : List ℕ). flat (map f xs) ++ l) (zeros (room - length xs) ∙ ap (λ n. replicate n 0) d))
+    where
+      zeros : (n : ℕ) → flat (map f (replicate n 0)) ≡ replicate (k * n) 0
+      zeros zero = ap (λ m. replicate m 0) (sym (mul-zero k))
+      zeros (suc n) =
+          let q : k + k * n ≡ k * suc n = omega (arith, mul-suc k n) in
+          ap₂ (λ (a b : List ℕ). a ++ b) z (zeros n) ∙ replicate-append-replicate k (k * n) 0 ∙ ap (λ m. replicate m 0) q
+
+-- What a padded list has at a place within its room.
+pub padded_at : (room : ℕ) (xs : List ℕ) (i : ℕ) → i < room → length xs ≤ room → get_or (padded room xs) i 0 ≡ get_or xs i 0
+unfolding padded
+padded_at room [] i h l = get_or-replicate (room - 0) i 0 0 (omega arith)
+padded_at room (x ∷ xs) zero h l = refl
+padded_at zero (x ∷ xs) (suc i) h l = absurd (omega arith)
+padded_at (suc room) (x ∷ xs) (suc i) h l =
+    let e : suc room - suc (length xs) ≡ room - length xs = omega arith in
+    ap (λ n. get_or (xs ++ replicate n 0) i 0) e ∙ padded_at room xs i (omega arith) (omega arith)
 
 -- One entry set.
 pub patched_one : (s : List ℕ) (j v : ℕ) → j < length s → set s j v ≡ patched j (v ∷ []) s

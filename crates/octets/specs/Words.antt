@@ -1,10 +1,14 @@
 -- Numbers of eight bytes, the highest first, and tables of them; and tables of single bytes.
-use Rattle.std.specs.Prelude.{◌≡◌, refl, ℕ, zero, suc, ◌+◌, ◌*◌, ◌/◌, ◌%◌, ◌^◌, ◌<◌, List, [], ◌∷◌, ◌++◌, map, length, get_or, take, drop, set}
+use Rattle.std.specs.Prelude.{◌≡◌, refl, ℕ, zero, suc, ◌+◌, ◌-◌, ◌*◌, ◌≤◌, ◌/◌, ◌%◌, ◌^◌, ◌<◌, List, [], ◌∷◌, ◌++◌, map, length, get_or, take, drop, set}
+use Rattle.std.specs.List.{flat_map}
 use Rattle.std.proofs.Common.{sym, ap, ap₂, ◌∙◌, add-zero, arith, add-one, append_assoc, length-drop, drop-cons, drop-drop, get_or-drop, take-suc, length-take-le, drop_at}
 use Rattle.std.proofs.lemmas.List.{set_at}
 use Rattle.std.proofs.Math.Seq.{append_snoc}
+use Rattle.byteorder.specs.Endian.{big_number, big_bytes, IsRead}
+use Rattle.byteorder.specs.Numbers.{big_from-take}
 use Rattle.base.specs.Lists.{All, flat}
 use Rattle.images.specs.Storable.{Octet}
+use Rattle.images.specs.Kept.{drop_take}
 use Rattle.packing.specs.Replace.{eight}
 
 -- ---- reading
@@ -23,12 +27,36 @@ unfolding numbers_at
 numbers_length s at zero = refl
 numbers_length s at (suc n) = ap suc (numbers_length s (at + 8) n)
 
-numbers_more : (s : List ℕ) (at n : ℕ) → numbers_at s at (suc n) ≡ numbers_at s at n ++ (number_at s (at + 8 * n) ∷ [])
+-- One more number, at the end.
+pub numbers_more : (s : List ℕ) (at n : ℕ) → numbers_at s at (suc n) ≡ numbers_at s at n ++ (number_at s (at + 8 * n) ∷ [])
 unfolding numbers_at
 numbers_more s at zero = let e : at + 8 * 0 ≡ at = omega arith in rw e
 numbers_more s at (suc n) =
     let e : at + 8 * suc n ≡ at + 8 + 8 * n = omega arith in
     rw e (ap (λ (l : List ℕ). number_at s at ∷ l) (numbers_more s (at + 8) n))
+
+-- The same number as the library reads it.
+number_big : (s : List ℕ) (at : ℕ) → big_number 8 (drop at s) ≡ number_at s at
+unfolding number_at
+number_big s at = simp (get_or-drop, add-zero) (omega arith)
+
+-- A table is these numbers if each of its entries is.
+numbers_each : (s t : List ℕ) (at : ℕ) → ((k : ℕ) → k < length t → get_or t k 0 ≡ number_at s (at + 8 * k)) → t ≡ numbers_at s at (length t)
+unfolding numbers_at
+numbers_each s [] at h = refl
+numbers_each s (x ∷ t) at h =
+    ap₂ (λ (n : ℕ) (l : List ℕ). n ∷ l) (h 0 (omega arith) ∙ ap (number_at s) (omega arith))
+    (numbers_each s t (at + 8) (λ k l. h (suc k) (omega arith) ∙ ap (number_at s) (omega arith)))
+
+-- So is a table that the library read.
+pub numbers_read : (s t : List ℕ) (at n : ℕ) → length t ≡ n → at + 8 * n ≤ length s → IsRead big_number 8 (take (at + 8 * n - at) (drop at s)) t
+    → t ≡ numbers_at s at n
+numbers_read s t at n z h r =
+    numbers_each s t at (λ k l.
+    r k l ∙ ap (big_number 8) (drop_take (8 * k) (at + 8 * n - at) (drop at s))
+    ∙ big_from-take 0 8 (at + 8 * n - at - 8 * k) (drop (8 * k) (drop at s)) (omega arith)
+    ∙ ap (big_number 8) (drop-drop (8 * k) at s) ∙ number_big s (at + 8 * k))
+    ∙ ap (numbers_at s at) z
 
 -- One more entry at the front of a table, given what the entries passed are.
 grow : (p t : List ℕ) (i v : ℕ) → length p ≡ i → i < length t → set (p ++ drop i t) i v ≡ p ++ (v ∷ []) ++ drop (i + 1) t
@@ -76,6 +104,12 @@ octets x =
 pub octets_length : (x : ℕ) → length (octets x) ≡ 8
 unfolding octets
 octets_length x = refl
+
+-- The same bytes as the library writes them.
+pub octets_big : (xs : List ℕ) → flat_map (big_bytes 8) xs ≡ flat (map octets xs)
+unfolding octets flat
+octets_big [] = refl
+octets_big (x ∷ xs) = ap (λ (l : List ℕ). octets x ++ l) (octets_big xs)
 
 -- The low byte alone.
 unfoldable pub octet : ℕ → List ℕ

@@ -2,73 +2,59 @@
 // that is free then.
 #![tactic(auto)]
 
-ghost use Rattle.std.specs.Prelude.{◌≡◌, ◌+◌, ◌*◌, ◌≤◌, ◌<◌, length, take};
+ghost use Rattle.std.specs.Prelude.{◌≡◌, ◌+◌, ◌*◌, ◌≤◌, length, take};
 ghost use Rattle.bound.specs.Bounds.{bound_is};
 ghost use Rattle.limits.specs.Limits.{limits_of, slot_at};
-ghost use Rattle.enter.specs.Grow.{Sturdy};
 ghost use Rattle.firing.specs.Answers.{Elements};
 ghost use Rattle.offspring.specs.One.{PlacedOne};
 ghost use Rattle.offspring.specs.All.{PlacedAll};
 
 use adopting::place_child;
-use bound::Bound;
-use children::derive;
-use limits::Limits;
+use children::{Branching, Scratch, derive};
 use lists::lowest_free;
+use nodes::Text;
 use skips::skip_disjunct;
 
 // The child of the disjunct at a place, into the lowest free of so many slots. One that is too large is not stored: it is asked for only
 // where each of them fits.
-fn place_one(
-    book: &[u8],
+fn place_one<const N: usize, const K: usize, const E: usize>(
+    p: &Branching<'_, N, K>,
     at: usize,
-    v: usize,
-    bound: Bound,
     place: u64,
-    env: &mut [u64],
-    base: &[u64],
-    w: &mut [u64],
-    limits: Limits,
-    dom: &mut [u64],
+    m: &mut Scratch<N, K, E>,
     pool: &mut [u8],
     slots: usize,
 )
-    requires { ((at ≤ length book.now) × ((length book.now ≤ 32768) × ((v < 65536) × (Elements env.old v × ((limits.keys ≤ length dom.old) × (Sturdy (limits_of limits) base.now × (length w.old ≡ length base.now))))))) × (slot_at (limits_of limits) slots ≤ length pool.old) }
-    ensures env_unchanged { take v env.new ≡ take v env.old }
-    ensures placed_one { PlacedOne book.now at v (bound_is bound) (limits_of limits) place env.old base.now slots pool.old pool.new }
+    requires { ((at ≤ length p.now.book.now) × Elements m.old.env p.now.chosen) × (slot_at (limits_of p.now.limits) slots ≤ length pool.old) }
+    ensures env_unchanged { take p.now.chosen m.new.env ≡ take p.now.chosen m.old.env }
+    ensures placed_one { PlacedOne p.now.book.now at p.now.chosen (bound_is p.now.bound) (limits_of p.now.limits) place m.old.env p.now.base.now slots pool.old pool.new }
 {
-    let Ok(cut) = derive(book, at, v, bound, env, base, w, limits, dom) else {
+    let Ok(cut) = derive(p, at, m) else {
         return;
     };
     if let Some(i) = lowest_free(pool, slots) {
-        place_child(pool, i, cut, place, w, limits);
+        place_child(pool, i, cut, place, &mut m.form, p.limits);
     }
 }
 
 // The children of n disjuncts from a place on.
-pub fn place_children(
-    book: &[u8],
+pub fn place_children<const N: usize, const K: usize, const E: usize>(
+    p: &Branching<'_, N, K>,
     at: usize,
     n: u64,
-    v: usize,
-    bound: Bound,
     place: u64,
-    env: &mut [u64],
-    base: &[u64],
-    w: &mut [u64],
-    limits: Limits,
-    dom: &mut [u64],
+    m: &mut Scratch<N, K, E>,
     pool: &mut [u8],
     slots: usize,
 )
-    requires { ((at ≤ length book.now) × ((length book.now ≤ 32768) × ((v < 65536) × (Elements env.old v × ((limits.keys ≤ length dom.old) × (Sturdy (limits_of limits) base.now × (length w.old ≡ length base.now))))))) × (slot_at (limits_of limits) slots ≤ length pool.old) }
-    ensures { PlacedAll book.now at n v (bound_is bound) (limits_of limits) place env.old base.now slots pool.old pool.new }
+    requires { ((at ≤ length p.now.book.now) × Elements m.old.env p.now.chosen) × (slot_at (limits_of p.now.limits) slots ≤ length pool.old) }
+    ensures { PlacedAll p.now.book.now at n p.now.chosen (bound_is p.now.bound) (limits_of p.now.limits) place m.old.env p.now.base.now slots pool.old pool.new }
 {
-    let mut p = at;
+    let book = p.book;
+    let text = Text { book, bytes: book };
+    let mut q = at;
     for _ in 0..n {
-        place_one(
-            book, p, v, bound, place, env, base, w, limits, dom, pool, slots,
-        );
-        p = skip_disjunct(book, book, p);
+        place_one(p, q, place, m, pool, slots);
+        q = skip_disjunct(&text, q);
     }
 }

@@ -7,7 +7,7 @@ use Rattle.std.proofs.Math.Decide.{dec_le}
 use Rattle.std.proofs.Math.Bool.{true, false}
 use Rattle.std.proofs.lemmas.List.{replicate-append-replicate}
 use Rattle.std.proofs.Math.Dec.{leb, ltb, eqb}
-use borrow.Author.Tests.{lt-ltb, le-ltb, le-leb, eq-eqb, ne_eqb}
+use borrow.Author.Tests.{ltb-true, lt-ltb, le-ltb, le-leb, lt-leb, eq-eqb, ne_eqb}
 use Rattle.base.specs.Branch.{if}
 use Rattle.base.specs.Lists.{flat}
 use Rattle.rules.specs.Book.{Book}
@@ -33,6 +33,9 @@ module _ (len n : ℕ) (e : n ≡ (len - 208) / 2128) where
 
   pub length_wrong : (len ≡ 208 + 2128 * n → ⊥) → false ≡ right_length len
   length_wrong h = sym (right_is ∙ ap (λ b. b && (leb 1 n && leb n 64)) (ne_eqb len (208 + 2128 * n) h))
+
+  pub length_none : len ≡ 208 + 2128 * n → n < 1 → false ≡ right_length len
+  length_none h l = sym (right_is ∙ ap₂ (λ a b. a && (b && leb n 64)) (eq-eqb len (208 + 2128 * n) h) (lt-leb 1 n l))
 
   pub length_right : len ≡ 208 + 2128 * n → (b : Bool) → (b ≡ true → (1 ≤ n) × (n ≤ 64)) → (b ≡ false → 1 ≤ n → n ≤ 64 → ⊥) → b ≡ right_length len
   length_right h true y z = let p = y refl in sym (right_is ∙ rw (eq-eqb len (208 + 2128 * n) h, le-leb 1 n p.0, le-leb n 64 p.1) refl)
@@ -63,7 +66,7 @@ pub record OpenRest (pool : Bytes) (scheduler strategy answer : ℕ) (after : By
   pub leaves : after ≡ (open_rest pool scheduler strategy).pool
 
 module _ (scheduler strategy : ℕ) where
-  scheduler_unknown : 2 ≤ scheduler → settings_known scheduler strategy ≡ false
+  pub scheduler_unknown : 2 ≤ scheduler → settings_known scheduler strategy ≡ false
   unfolding schedulers
   scheduler_unknown h = ap (λ b. b && ltb strategy strategies) (le-ltb scheduler 2 h)
 
@@ -74,6 +77,20 @@ module _ (scheduler strategy : ℕ) where
   both_known : scheduler < 2 → strategy < 2 → settings_known scheduler strategy ≡ true
   unfolding schedulers strategies
   both_known h k = rw (lt-ltb scheduler 2 h, lt-ltb strategy 2 k) refl
+
+  -- Where the scheduler is known, the strategy decides.
+  pub strategy_decides : scheduler < 2 → ltb strategy 2 ≡ settings_known scheduler strategy
+  unfolding schedulers strategies
+  strategy_decides h = sym (ap (λ b. b && ltb strategy 2) (lt-ltb scheduler 2 h))
+
+  pub settings_within : true ≡ settings_known scheduler strategy → (scheduler < 2) × (strategy < 2)
+  unfolding schedulers strategies
+  settings_within e = go (ltb scheduler 2) (ltb strategy 2) refl refl (sym e)
+    where
+      go : (a b : Bool) → ltb scheduler 2 ≡ a → ltb strategy 2 ≡ b → a && b ≡ true → (scheduler < 2) × (strategy < 2)
+      go true true p q _ = (ltb-true scheduler 2 p, ltb-true strategy 2 q)
+      go true false p q e = absurd (let z : ◌≡◌ {A = ℕ} 0 1 = cc in omega arith)
+      go false b p q e = absurd (let z : ◌≡◌ {A = ℕ} 0 1 = cc in omega arith)
 
 module _ (pool : Bytes) (scheduler strategy : ℕ) where
   rest_is : (o : Outcome) → open_rest pool scheduler strategy ≡ o → OpenRest pool scheduler strategy o.answer o.pool

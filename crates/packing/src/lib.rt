@@ -4,7 +4,7 @@
 
 ghost use Rattle.std.specs.Prelude.{◌≡◌, ◌<◌};
 ghost use Rattle.rules.specs.Merge.{rename};
-ghost use Rattle.packing.specs.Replace.{count_of, arg_of, value_of, replaced};
+ghost use Rattle.packing.specs.Replace.{count_of, arg_of, key_of, value_of, replaced};
 
 pub fn count(x: u64) -> u64
     ensures { (result ≡ count_of x) × (result < 256) }
@@ -26,30 +26,50 @@ pub fn argument(x: u64, i: u64) -> u64
     }
 }
 
+pub fn key(x: u64) -> u64
+    ensures { result ≡ key_of x }
+{
+    x / 256
+}
+
 pub fn value(x: u64) -> u64
     ensures { (result ≡ value_of x) × (result < 256) }
 {
     x % 256
 }
 
-// Element l becomes s.
-pub fn renamed(e: u64, s: u64, l: u64) -> u64
-    requires { (e < 256) × (s < 256) }
-    ensures { (result ≡ rename s l e) × (result < 256) }
-{
-    if e == l { s } else { e }
+// One element in place of another: the one that stays, and the one that goes.
+#[derive(Clone, Copy)]
+pub struct Replacement {
+    pub stays: u64,
+    pub goes: u64,
+    pub ghost octet: { stays < 256 },
 }
 
-// The same in the four arguments and the value of an entry.
-#[tactic(auto, unfolding(crate::specs::Replace::replaced))]
-pub fn replace(x: u64, s: u64, l: u64) -> u64
-    requires { s < 256 }
-    ensures { result ≡ replaced s l x }
-{
-    let a0 = renamed(argument(x, 0), s, l);
-    let a1 = renamed(argument(x, 1), s, l);
-    let a2 = renamed(argument(x, 2), s, l);
-    let a3 = renamed(argument(x, 3), s, l);
-    let v = renamed(x % 256, s, l);
-    x / 1099511627776 * 1099511627776 + a0 * 4294967296 + a1 * 16777216 + a2 * 65536 + a3 * 256 + v
+impl Replacement {
+    // What an element is then: the one that goes becomes the one that stays.
+    pub fn renamed(self, e: u64) -> u64
+        requires { e < 256 }
+        ensures { (result ≡ rename self.stays self.goes e) × (result < 256) }
+    {
+        if e == self.goes { self.stays } else { e }
+    }
+
+    // The same in the four arguments and the value of an entry.
+    #[tactic(auto, unfolding(crate::specs::Replace::replaced))]
+    pub fn replace(self, x: u64) -> u64
+        ensures { result ≡ replaced self.stays self.goes x }
+    {
+        let a0 = self.renamed(argument(x, 0));
+        let a1 = self.renamed(argument(x, 1));
+        let a2 = self.renamed(argument(x, 2));
+        let a3 = self.renamed(argument(x, 3));
+        let v = self.renamed(value(x));
+        x / 1099511627776 * 1099511627776
+            + a0 * 4294967296
+            + a1 * 16777216
+            + a2 * 65536
+            + a3 * 256
+            + v
+    }
 }

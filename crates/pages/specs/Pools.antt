@@ -1,24 +1,51 @@
 -- The text off a pool's bytes is the text of the state that the bytes say.
-use Rattle.std.specs.Prelude.{◌≡◌, refl, ℕ, zero, suc, ◌+◌, ◌-◌, ◌*◌, ◌/◌, ◌≤◌, ◌<◌, min, get_or, take, drop, replicate}
+use Rattle.std.specs.Prelude.{◌≡◌, refl, ℕ, zero, suc, ◌+◌, ◌-◌, ◌*◌, ◌/◌, ◌≤◌, ◌<◌, min, get_or, take, drop, replicate, Option, Some, None}
 use Rattle.std.proofs.Math.Path.{sym, ap, ap₂}
 use Rattle.std.proofs.Common.{◌∙◌, mul-zero, mul-suc, arith, drop-drop}
+use Rattle.std.proofs.lemmas.List.{take_all}
+use Rattle.std.specs.Option.{unwrap_or, option_map}
+use Rattle.std.specs.Simd.{first_chunks}
 use mathlib.Core.List.{List, [], ◌∷◌, ◌++◌, map, append_assoc, append-nil}
-use Rattle.std.proofs.Math.ListN.{length, length-drop, length-map, get_or-eq_default}
+use Rattle.std.proofs.Math.ListN.{length, length-drop, length-map, get_or-map, get_or-eq_default}
 use Rattle.std.proofs.Math.Seq.{length-take-le}
 use Rattle.base.specs.Lists.{flat}
 use Rattle.base.specs.ListLaws.{map_map}
 use Rattle.rules.specs.Reading.{Bytes}
-use Rattle.rules.specs.Sheet.{blank, limits}
+use Rattle.rules.specs.Sheet.{Sheet, blank, limits}
 use Rattle.rules.specs.Pool.{State, sheet_at, sheets_at}
 use Rattle.rules.specs.Image.{head_size, sheet_size, slots_in, most_slots, part, parts, list_in, sheet_bytes, sheet_in, pool_in}
 use Rattle.images.specs.Storable.{small_limits, blank_storable}
 use Rattle.images.specs.Sheets.{sheet_back, blank_zero}
 use Rattle.lines.specs.Text.{fields, stop_word, steps_word, complete_word, bounded_word, waiting_word, newline, sheet_lines, listing}
 use Rattle.lines.specs.Lines.{take_few}
-use Rattle.pages.specs.Tables.{slot_text, slots_text, stop_line, waiting_line}
+use Rattle.pages.specs.Tables.{chunks_are, slot_text, slots_text, stop_line, waiting_line}
 
 -- ---- a slot
 
+-- What stands behind a reference that may be there, or behind another.
+pub behind : {X Y : Type 0} (f : X → Y) (r : Option X) (x : X) → f (unwrap_or r x) ≡ unwrap_or (option_map f r) (f x)
+behind f None x = refl
+behind f (Some y) x = refl
+
+-- A slot of zeros.
+zeros_blank : sheet_in limits (replicate 2128 0) ≡ blank
+unfolding limits sheet_size
+zeros_blank = ap (sheet_in limits) (sym (blank_zero limits) ∙ sym (append-nil (sheet_bytes limits blank))) ∙ sheet_back limits small_limits blank (blank_storable limits) []
+
+-- A slot's sheet; behind the last slot stands the blank one.
+module _ (p : Bytes) (i : ℕ) where
+  pub slot_is : 208 ≤ length p → (slots : List Bytes) → slots ≡ first_chunks 2128 (length (take (length p - 208) (drop 208 p)) / 2128) (take (length p - 208) (drop 208 p))
+      → sheet_in limits (get_or slots i (replicate 2128 0)) ≡ sheet_at (pool_in limits p) i
+  unfolding sheet_at pool_in slots_in sheet_size head_size limits
+  slot_is h slots e =
+      let whole : take (length p - 208) (drop 208 p) ≡ drop 208 p = take_all (length p - 208) (drop 208 p) (omega (arith, length-drop 208 p)) in
+      let long : length (drop 208 p) ≡ length p - 208 = length-drop 208 p in
+      sym (get_or-map (sheet_in limits) slots i (replicate 2128 0))
+      ∙ ap₂ (λ (l : List Bytes) (x : Sheet). get_or (map (sheet_in limits) l) i x)
+      (e ∙ ap (λ (l : Bytes). first_chunks 2128 (length l / 2128) l) whole ∙ ap (λ n. first_chunks 2128 (n / 2128) (drop 208 p)) long ∙ chunks_are 2128 ((length p - 208) / 2128) (drop 208 p))
+      zeros_blank
+
+-- The same of a slot's place among the pool's bytes.
 part_at : {A : Type 0} (g : Bytes → A) (size k : ℕ) (s : Bytes) (i : ℕ) (d : A) → i < k → get_or (map g (parts size k s)) i d ≡ g (take size (drop (size * i) s))
 unfolding parts
 part_at g size zero s i d h = absurd (omega arith)
@@ -41,7 +68,7 @@ module _ (p : Bytes) (i : ℕ) where
   pub slot_behind : (length p - 208) / 2128 ≤ i → sheet_in limits (replicate 2128 0) ≡ sheet_at (pool_in limits p) i
   unfolding sheet_at pool_in slots_in sheet_size head_size limits
   slot_behind h =
-      ap (sheet_in limits) (sym (blank_zero limits) ∙ sym (append-nil (sheet_bytes limits blank))) ∙ sheet_back limits small_limits blank (blank_storable limits) []
+      zeros_blank
       ∙ sym (get_or-eq_default (map (sheet_in limits) (parts 2128 ((length p - 208) / 2128) (drop 208 p))) blank {n = i} (omega (arith, length-map (parts 2128 ((length p - 208) / 2128) (drop 208 p)) (sheet_in limits), parts_length 2128 ((length p - 208) / 2128) (drop 208 p))))
 
 -- ---- the whole

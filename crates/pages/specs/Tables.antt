@@ -1,14 +1,16 @@
 -- The listing's text off bytes, part by part as code writes it: tables of entries, depths, lists of slots. One law for a turn of each loop.
-use Rattle.std.specs.Prelude.{◌≡◌, refl, ℕ, zero, suc, ◌+◌, ◌*◌, ◌<◌, true, false, ◌||◌, get_or, eqb}
+use Rattle.std.specs.Prelude.{◌≡◌, refl, ℕ, zero, suc, ◌+◌, ◌*◌, ◌≤◌, ◌<◌, true, false, ◌||◌, get_or, eqb}
 use Rattle.std.proofs.Math.Path.{sym, ap, ap₂}
-use Rattle.std.proofs.Common.{◌∙◌, zero-add, arith, add-one, drop-drop, get_or-drop, get_or-take}
+use Rattle.std.proofs.Common.{◌∙◌, zero-add, arith, add-one, drop-drop}
 use Rattle.std.proofs.lemmas.Bool.Decides.{nat_tests}
-use Rattle.std.specs.List.{list_any, range_with_len}
+use Rattle.std.proofs.lemmas.List.{take_all}
+use Rattle.std.specs.List.{list_any}
+use Rattle.std.specs.Simd.{first_chunks}
 use mathlib.Core.List.{List, [], ◌∷◌, ◌++◌, map, append_assoc, append-nil}
 use Rattle.std.proofs.Math.ListN.{length, take, drop}
 use Rattle.std.proofs.Math.Seq.{take-suc}
 use Rattle.base.specs.Branch.{if}
-use Rattle.base.specs.Lists.{any, mem, from, flat}
+use Rattle.base.specs.Lists.{mem, from, flat}
 use Rattle.base.specs.ListLaws.{map_append}
 use Rattle.rules.specs.Reading.{Bytes}
 use Rattle.rules.specs.Sheet.{limits}
@@ -54,6 +56,25 @@ stop_line stop steps = stop_word ++ (fields (stop ∷ []) ++ (steps_word ++ (fie
 unfoldable pub waiting_line : ℕ → Bytes
 waiting_line n = waiting_word ++ (fields (n ∷ []) ++ newline)
 
+-- ---- chunks
+
+-- Chunks are parts, all of them and the first ones.
+pub chunks_are : (size n : ℕ) (s : Bytes) → first_chunks size n s ≡ parts size n s
+unfolding parts
+chunks_are size zero s = refl
+chunks_are size (suc n) s = ap (λ (l : List Bytes). take size s ∷ l) (chunks_are size n (drop size s))
+
+pub chunks_first : (size k n : ℕ) (s : Bytes) → k ≤ n → take k (first_chunks size n s) ≡ parts size k s
+unfolding parts
+chunks_first size zero n s h = refl
+chunks_first size (suc k) zero s h = absurd (omega arith)
+chunks_first size (suc k) (suc n) s h = ap (λ (l : List Bytes). take size s ∷ l) (chunks_first size k n (drop size s) (omega arith))
+
+-- All entries of a table.
+pub texts_all : (f : Bytes → Bytes) (at k j : ℕ) (s : Bytes) (es : List Bytes) → es ≡ parts 8 k (drop at s) → length es ≤ j → flat (map f (take j es)) ≡ table_text f at k s
+unfolding table_text
+texts_all f at k j s es e h = ap (λ (l : List Bytes). flat (map f l)) (take_all j es h ∙ e)
+
 -- ---- one more
 
 flat_last : {A : Type 0} (f : A → Bytes) (xs : List A) (x : A) → flat (map f (xs ++ (x ∷ []))) ≡ flat (map f xs) ++ f x
@@ -80,6 +101,10 @@ more : {A : Type 0} (f : A → Bytes) (p : Bytes) (xs ys : List A) (x : A) → y
 more f p xs ys x e = append_assoc p (flat (map f xs)) (f x) ∙ ap (λ (l : Bytes). p ++ l) (sym (ap (λ (l : List _). flat (map f l)) e ∙ flat_last f xs x))
 
 module _ (p : Bytes) where
+  pub texts_more : (f : Bytes → Bytes) (es : List Bytes) (j : ℕ) (d : Bytes) → j < length es → (p ++ flat (map f (take j es))) ++ f (get_or es j d) ≡ p ++ flat (map f (take (j + 1) es))
+  texts_more f es j d h = more f p (take j es) (take (j + 1) es) (get_or es j d) (ap (λ i. take i es) (add-one j) ∙ take-suc es j d h)
+
+  -- A table's next entry, read at its place.
   pub table_more : (f : Bytes → Bytes) (at k : ℕ) (s : Bytes) → (p ++ table_text f at k s) ++ f (take 8 (drop (at + 8 * k) s)) ≡ p ++ table_text f at (k + 1) s
   unfolding table_text
   table_more f at k s = more f p (parts 8 k (drop at s)) (parts 8 (k + 1) (drop at s)) (take 8 (drop (at + 8 * k) s)) (parts_more at k s)
@@ -101,11 +126,23 @@ pub depth_unknown : (k e : ℕ) (s : Bytes) → mem e (values_in k s) ≡ false 
 unfolding depth_part if
 depth_unknown k e s h = sym (ap (λ b. if b (λ _. depth_text e (get_or s (2064 + e) 0)) (λ _. [])) h)
 
+-- The next element, its line written or not.
+module _ (p : Bytes) (k e : ℕ) (s : Bytes) where
+  pub depths_line : mem e (values_in k s) ≡ true → (p ++ depths_text k e s) ++ depth_text e (get_or s (2064 + e) 0) ≡ p ++ depths_text k (e + 1) s
+  depths_line h = ap (λ (l : Bytes). (p ++ depths_text k e s) ++ l) (depth_yielded k e s h) ∙ depths_more p k e s
+
+  pub depths_nothing : mem e (values_in k s) ≡ false → p ++ depths_text k e s ≡ p ++ depths_text k (e + 1) s
+  depths_nothing h = sym (append-nil (p ++ depths_text k e s)) ∙ ap (λ (l : Bytes). (p ++ depths_text k e s) ++ l) (depth_unknown k e s h) ∙ depths_more p k e s
+
 -- ---- none yet
 
-pub table_none : (p : Bytes) (f : Bytes → Bytes) (at : ℕ) (s : Bytes) → p ++ table_text f at 0 s ≡ p
+pub table_none : (f : Bytes → Bytes) (at : ℕ) (s : Bytes) → [] ≡ table_text f at 0 s
 unfolding table_text parts flat
-table_none p f at s = append-nil p
+table_none f at s = refl
+
+pub texts_none : (p : Bytes) (f : Bytes → Bytes) (es : List Bytes) → p ++ flat (map f (take 0 es)) ≡ p
+unfolding flat
+texts_none p f es = append-nil p
 
 pub depths_none : (p : Bytes) (k : ℕ) (s : Bytes) → p ++ depths_text k 0 s ≡ p
 unfolding depths_text from flat
@@ -120,20 +157,10 @@ slots_none p w pool = append-nil p
 same_eqb : (a b : ℕ) → eqb a b ≡ eqb b a
 same_eqb a b = grind (arith, nat_tests)
 
--- Keys from the j-th on: each has its value at its eighth byte.
-values_from : (k j e : ℕ) (s : Bytes)
-    → list_any (λ i. eqb (get_or s (16 + 8 * i + 7) 0) e) (range_with_len j k) ≡ any (eqb e) (map (λ (x : Bytes). get_or x 7 0) (parts 8 k (drop (16 + 8 * j) s)))
-unfolding parts
-values_from zero j e s = refl
-values_from (suc k) j e s =
-    let d : drop 8 (drop (16 + 8 * j) s) ≡ drop (16 + 8 * (j + 1)) s = drop-drop 8 (16 + 8 * j) s ∙ ap (λ n. drop n s) (omega arith) in
-    let h : get_or (take 8 (drop (16 + 8 * j) s)) 7 0 ≡ get_or s (16 + 8 * j + 7) 0 = get_or-take 8 (drop (16 + 8 * j) s) 7 0 (omega arith) ∙ get_or-drop (16 + 8 * j) s 7 0 in
-    ap₂ ◌||◌ (same_eqb (get_or s (16 + 8 * j + 7) 0) e ∙ ap (eqb e) (sym h))
-    (values_from k (j + 1) e s ∙ ap (λ (l : Bytes). any (eqb e) (map (λ (x : Bytes). get_or x 7 0) (parts 8 k l))) (sym d))
-
-pub values_are : (k e : ℕ) (s : Bytes) → list_any (λ i. eqb (get_or s (16 + 8 * i + 7) 0) e) (range_with_len 0 k) ≡ mem e (values_in k s)
-unfolding mem values_in
-values_are k e s = values_from k 0 e s
+pub values_are : (e : ℕ) (keys : List Bytes) → list_any (λ (key : Bytes). eqb (get_or key 7 0) e) keys ≡ mem e (map (λ key. get_or key 7 0) keys)
+unfolding mem
+values_are e [] = refl
+values_are e (key ∷ keys) = ap₂ ◌||◌ (same_eqb (get_or key 7 0) e) (values_are e keys)
 
 -- ---- the first line and the last
 

@@ -6,18 +6,23 @@ ghost use Rattle.std.specs.Prelude.{◌≡◌, ◌+◌, ◌*◌, ◌≤◌, ◌<
 ghost use Rattle.rules.specs.Reading.{num};
 ghost use Rattle.rules.specs.Fire.{places};
 ghost use Rattle.settings.specs.Codes.{strategy_is};
+ghost use Rattle.settings.specs.Numbers.{number_of};
 ghost use Rattle.pools.specs.Count.{cnt};
 ghost use Rattle.texts.specs.Names.{names_in, count_at};
+ghost use Rattle.sheetparts.specs.Tests.{byte_at};
 ghost use Rattle.poolparts.specs.Tests.{mark_number, list_room, in_range, list_right, next_of, lists_right, frame_right, row_at, listed, other_at, differs, held_right, slot_right, slots_right, start_of};
 
 use counts::sequent_count;
-use limits::{HEAD, LIMITS, SLOT};
-use settings::Strategy;
+use limits::{LIMITS, SLOT};
+use settings::{MOST_LISTED, SlotList, Strategy};
 use sheetcheck::sheet_sound;
 use sheetparts::zeros;
 use words::{byte, num16, num32};
 
 // ---- the head
+
+// The mark `MDL` and version 1, as four bytes that are read as a number.
+const MARK: u64 = b'M' as u64 + 256 * b'D' as u64 + 65536 * b'L' as u64 + 16777216;
 
 // Mark, version and the two unused bytes as one number.
 #[tactic(auto, unfolding(crate::specs::Tests::mark_number))]
@@ -36,13 +41,13 @@ pub fn next_number(p: &[u8]) -> u64
     num32(p, 8)
 }
 
-// At most 64 of a list, and zeros behind them. A list is its place and its count, and no slice: a place past the end reads as 0.
+// At most 64 of a list, and zeros behind them. It stands at a place and is n long, and no slice: a place past the end reads as 0.
 #[tactic(auto, unfolding(crate::specs::Tests::list_room))]
 fn list_room(p: &[u8], at: usize, n: usize) -> bool
     requires { at < 65536 }
     ensures { result ≡ list_room p.now at n }
 {
-    n <= 64 && zeros(p, at + n, 64 - n)
+    n <= MOST_LISTED && zeros(p, at + n, MOST_LISTED - n)
 }
 
 // All of a list are slots.
@@ -53,11 +58,19 @@ fn in_range(p: &[u8], slots: usize, at: usize, n: usize) -> bool
     (0..n).all(|j| (byte(p, at + j) as usize) < slots)
 }
 
-#[tactic(auto, unfolding(crate::specs::Tests::list_right))]
-fn list_right(p: &[u8], slots: usize, at: usize, n: usize) -> bool
-    requires { (at < 65536) × (n < 65536) }
-    ensures { result ≡ list_right p.now slots at n }
+// How many slots a list counts.
+pub fn counted(p: &[u8], list: SlotList) -> usize
+    ensures { (result ≡ byte_at p.now (12 + number_of list)) × (result < 256) }
 {
+    byte(p, list.counted_at()) as usize
+}
+
+#[tactic(auto, unfolding(crate::specs::Tests::list_right))]
+fn list_right(p: &[u8], slots: usize, list: SlotList) -> bool
+    ensures { result ≡ list_right p.now slots (16 + 64 * number_of list) (byte_at p.now (12 + number_of list)) }
+{
+    let at = list.starts_at();
+    let n = counted(p, list);
     list_room(p, at, n) && in_range(p, slots, at, n)
 }
 
@@ -66,7 +79,7 @@ fn list_right(p: &[u8], slots: usize, at: usize, n: usize) -> bool
 pub fn frame_right(p: &[u8], slots: usize) -> bool
     ensures { result ≡ frame_right p.now slots }
 {
-    mark_number(p) == 21775437
+    mark_number(p) == MARK
         && byte(p, 5) < 2
         && byte(p, 6) < 2
         && next_number(p) <= 65536
@@ -78,25 +91,21 @@ pub fn frame_right(p: &[u8], slots: usize) -> bool
 fn lists_right(p: &[u8], slots: usize) -> bool
     ensures { result ≡ lists_right p.now slots }
 {
-    list_right(p, slots, 16, byte(p, 12) as usize)
-        && list_right(p, slots, 80, byte(p, 13) as usize)
-        && list_right(p, slots, 144, byte(p, 14) as usize)
+    list_right(p, slots, SlotList::Waiting)
+        && list_right(p, slots, SlotList::Complete)
+        && list_right(p, slots, SlotList::Bounded)
 }
 
 // ---- the slots
 
 // How often a list names a slot.
-fn times(p: &[u8], at: usize, n: usize, i: usize) -> u64
-    requires { (at < 65536) × (n < 256) }
-    ensures { (result ≡ cnt i (row_at p.now at n)) × (result < 256) }
+fn times(p: &[u8], list: SlotList, i: usize) -> u64
+    ensures { (result ≡ cnt i (row_at p.now (16 + 64 * number_of list) (byte_at p.now (12 + number_of list)))) × (result < 256) }
 {
-    let mut r = 0;
-    for j in 0..n {
-        if byte(p, at + j) as usize == i {
-            r += 1;
-        }
-    }
-    r
+    let at = list.starts_at();
+    (0..counted(p, list))
+        .filter(|j| byte(p, at + *j) as usize == i)
+        .count() as u64
 }
 
 // How often the lists name a slot.
@@ -104,9 +113,9 @@ fn times(p: &[u8], at: usize, n: usize, i: usize) -> u64
 fn listed(p: &[u8], i: usize) -> u64
     ensures { result ≡ listed p.now i }
 {
-    let w = times(p, 16, byte(p, 12) as usize, i);
-    let c = times(p, 80, byte(p, 13) as usize, i);
-    let b = times(p, 144, byte(p, 14) as usize, i);
+    let w = times(p, SlotList::Waiting, i);
+    let c = times(p, SlotList::Complete, i);
+    let b = times(p, SlotList::Bounded, i);
     w + (c + b)
 }
 
@@ -116,7 +125,7 @@ fn other(p: &[u8], i: usize, j: usize) -> bool
     requires { (i < 65536) × (j < 65536) }
     ensures { result ≡ other_at p.now i j }
 {
-    num16(p, HEAD + SLOT * j) != num16(p, HEAD + SLOT * i) || listed(p, j) == 0
+    num16(p, LIMITS.slot_at(j)) != num16(p, LIMITS.slot_at(i)) || listed(p, j) == 0
 }
 
 // No listed slot before it has its number.
@@ -133,7 +142,7 @@ fn held_right(book: &[u8], places: u64, p: &[u8], i: usize) -> bool
     requires { (i < 64) × (start_of i + 2128 ≤ length p.now) }
     ensures { result ≡ held_right (names_in book.now) places p.now i }
 {
-    let a = HEAD + SLOT * i;
+    let a = LIMITS.slot_at(i);
     num16(p, a) < next_number(p)
         && differs(p, i)
         && sheet_sound(book, &p[a..a + SLOT], places, LIMITS)
@@ -145,7 +154,7 @@ fn slot_right(book: &[u8], places: u64, p: &[u8], i: usize) -> bool
     ensures { result ≡ slot_right (names_in book.now) places p.now i }
 {
     match listed(p, i) {
-        0 => zeros(p, HEAD + SLOT * i, SLOT),
+        0 => zeros(p, LIMITS.slot_at(i), SLOT),
         1 => held_right(book, places, p, i),
         _ => false,
     }

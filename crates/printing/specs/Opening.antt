@@ -1,5 +1,5 @@
 -- What is printed where open refuses, where the fourth byte is not 0, and what is known where the run begins.
-use Rattle.std.specs.Prelude.{◌≡◌, refl, ℕ, ◌+◌, ◌*◌, ◌≤◌, ◌<◌, Bool, true, false, ◌&&◌, length, get_or, drop, T, ltb, eqb}
+use Rattle.std.specs.Prelude.{◌≡◌, refl, ℕ, ◌+◌, ◌*◌, ◌≤◌, ◌<◌, Bool, true, false, ◌&&◌, Result, Ok, Err, length, get_or, drop, T, ltb, eqb}
 use Rattle.std.proofs.Math.Path.{sym, ap, ap₂}
 use Rattle.std.proofs.Common.{◌∙◌, subst, arith, ltb→lt, lt-ltb, le-ltb, ne_eqb}
 use Rattle.base.specs.Branch.{if}
@@ -11,6 +11,8 @@ use Rattle.rules.specs.Pool.{schedulers, strategies, opened}
 use Rattle.rules.specs.Step.{Ran, run}
 use Rattle.rules.specs.Image.{head_size, sheet_size, slots_in, most_slots, pool_bytes}
 use Rattle.rules.specs.Calls.{right_length, bound_of, known_bound, checked, Outcome, outcome, open_call, OpenPromise}
+use Rattle.refusals.specs.declared.Refusal.{Refusal}
+use Rattle.refusals.specs.Numbers.{number as refusal_number}
 use Rattle.sheetparts.specs.Ways.{on, off}
 use Rattle.demands.specs.Refusals.{book_refusal}
 use Rattle.lines.specs.Text.{listing, refusal}
@@ -26,6 +28,11 @@ pub record Opened (input pool : Bytes) : Type 0 where
   pub strategy : get_or input 1 0 < 2
   pub zero : get_or input 3 0 ≡ 0
   pub is : pool ≡ pool_bytes limits (opened (get_or input 0 0) (get_or input 1 0) 12)
+
+-- An input opens its pool, or what it is refused with is what is printed.
+abbrev pub OpenedOr : Bytes → Result (Unit {0}) Refusal → Bytes → Type 0
+OpenedOr input (Ok done) after = Opened input after
+OpenedOr input (Err r) after = refusal (refusal_number r) ≡ printed input
 
 -- ---- the parts of an input
 

@@ -4,21 +4,24 @@
 #![tactic(auto)]
 
 ghost use Rattle.std.specs.Prelude.{◌≡◌, ◌+◌, ◌*◌, ◌≤◌, ◌++◌, length};
+ghost use Rattle.std.specs.Bool.{MatchBool};
 ghost use Rattle.rules.specs.Sheet.{limits};
 ghost use Rattle.rules.specs.Image.{pool_in};
 ghost use Rattle.lines.specs.Printed.{printed};
 ghost use Rattle.printing.specs.Stops.{ran_text};
-ghost use Rattle.printing.specs.Opening.{Opened};
+ghost use Rattle.printing.specs.Opening.{Opened, OpenedOr};
 
+use book::LONGEST_BOOK;
 use limits::{HEAD, SLOT};
 use lines::Page;
 use pages::{OTHER_LINES, SHEET_LINES};
+use refusals::Refusal;
 use words::{byte, num32};
 
 // The bytes of the settings, and of what is read: one more than the settings and the longest book, to tell a book that is too long.
 const SETTINGS: usize = 8;
 
-pub const INPUT: usize = SETTINGS + 32768 + 1;
+pub const INPUT: usize = SETTINGS + LONGEST_BOOK + 1;
 
 // The slots of the pool, its bytes, and the most bytes that a text takes.
 const SLOTS: usize = 12;
@@ -30,12 +33,19 @@ pub const TEXT: usize = SHEET_LINES * SLOTS + OTHER_LINES;
 // The most steps that a run takes.
 const BUDGET: u32 = 1000;
 
+// Does a run's stop refuse the call itself, by 1 to 13, so that no step was made? Any other stop says how the run ended.
+fn refuses_call(stop: u32) -> bool
+    ensures { MatchBool result ((1 ≤ stop) × (stop ≤ 13)) (1 ≤ stop → 14 ≤ stop) }
+{
+    (1..=u32::from(Refusal::PoolNotSound)).contains(&stop)
+}
+
 // A run's answer and pool: the refusal's line alone, or the listing.
-fn ran_text<const N: usize>(pool: &[u8], stop: u32, steps: u32, page: &mut Page<N>)
-    requires { (HEAD ≤ length pool.now) × (length page.old + SHEET_LINES * (length (pool_in limits pool.now).complete + length (pool_in limits pool.now).bounded) + OTHER_LINES ≤ N) }
+fn ran_text<const N: usize>(pool: &[u8; POOL], stop: u32, steps: u32, page: &mut Page<N>)
+    requires { length page.old + SHEET_LINES * (length (pool_in limits pool.now).complete + length (pool_in limits pool.now).bounded) + OTHER_LINES ≤ N }
     ensures { page.new ≡ page.old ++ ran_text stop steps pool.now }
 {
-    if (1..14).contains(&stop) {
+    if refuses_call(stop) {
         page.refusal(stop as u64);
     } else {
         pages::listing(pool, stop, steps, page);
@@ -43,8 +53,8 @@ fn ran_text<const N: usize>(pool: &[u8], stop: u32, steps: u32, page: &mut Page<
 }
 
 // The text behind an opened pool.
-fn opened_text<const N: usize>(input: &[u8], pool: &mut [u8], page: &mut Page<N>)
-    requires { Opened input.now pool.old × (length pool.old ≡ POOL) × (length page.old + TEXT ≤ N) }
+fn opened_text<const N: usize>(input: &[u8], pool: &mut [u8; POOL], page: &mut Page<N>)
+    requires { Opened input.now pool.old × (length page.old + TEXT ≤ N) }
     ensures { page.new ≡ page.old ++ printed input.now }
 {
     let bound = byte(input, 2) as u32;
@@ -53,24 +63,29 @@ fn opened_text<const N: usize>(input: &[u8], pool: &mut [u8], page: &mut Page<N>
     ran_text(pool, ran.stop, ran.steps, page);
 }
 
-// The text of an input.
-pub fn text<const N: usize>(input: &[u8], pool: &mut [u8], page: &mut Page<N>)
-    requires { (length pool.old ≡ POOL) × (length page.old + TEXT ≤ N) }
-    ensures { page.new ≡ page.old ++ printed input.now }
+// A pool opened by an input: its settings and its book, then the fourth byte, which is 0.
+fn open_input(input: &[u8], pool: &mut [u8; POOL]) -> Result<(), Refusal>
+    ensures { OpenedOr input.now result pool.new }
 {
     if input.len() < SETTINGS {
-        page.refusal(2);
-        return;
+        return Err(Refusal::BookEnds);
     }
     let scheduler = byte(input, 0) as u32;
     let strategy = byte(input, 1) as u32;
-    if let Err(refusal) = openings::open(&input[SETTINGS..], pool, scheduler, strategy) {
-        page.refusal(u64::from(u32::from(refusal)));
-        return;
-    }
+    openings::open(&input[SETTINGS..], pool, scheduler, strategy)?;
     if byte(input, 3) != 0 {
-        page.refusal(12);
-        return;
+        return Err(Refusal::UnknownSetting);
     }
-    opened_text(input, pool, page);
+    Ok(())
+}
+
+// The text of an input.
+pub fn text<const N: usize>(input: &[u8], pool: &mut [u8; POOL], page: &mut Page<N>)
+    requires { length page.old + TEXT ≤ N }
+    ensures { page.new ≡ page.old ++ printed input.now }
+{
+    match open_input(input, pool) {
+        Ok(()) => opened_text(input, pool, page),
+        Err(refusal) => page.refusal(u64::from(u32::from(refusal))),
+    }
 }

@@ -4,13 +4,15 @@
 
 ghost use Rattle.std.specs.Prelude.{◌<◌};
 
+use numbers::Fault;
+
 // The descriptors of standard input and output.
 pub const STDIN: i32 = 0;
 
 pub const STDOUT: i32 = 1;
 
 // The most records that a program takes.
-pub const MOST: u64 = 1000000;
+const MOST: u64 = 1000000;
 
 // Why a program takes no more records: there is none, one ends early or does not fit, or one is of no kind that is known.
 #[derive(Clone, Copy, Drop)]
@@ -60,6 +62,12 @@ pub fn say_hex(x: u64) {
     io::print_hex(STDOUT, x, 8);
 }
 
+// The number of a refusal, and the place of what is refused.
+pub fn say_fault(f: Fault) {
+    say(b"refused ", u64::from(u32::from(f.refusal)));
+    say(b" at ", f.at as u64);
+}
+
 fn last_line(stop: Stop, kind: &[u8], done: u64) {
     match stop {
         Stop::End => word(b"end"),
@@ -73,14 +81,23 @@ fn last_line(stop: Stop, kind: &[u8], done: u64) {
     word(b"\n");
 }
 
-// Takes records until one stops the program.
-pub fn each<F: FnMut() -> Result<(), Stop>>(kind: &[u8], mut next: F)
+// Takes records until one stops the program: why, and after how many.
+pub fn until_stopped<F: FnMut() -> Result<(), Stop>>(mut next: F) -> Option<(Stop, u64)>
     requires { F.IsAlwaysCallable next }
 {
     for done in 0..MOST {
         if let Err(stop) = next() {
-            last_line(stop, kind, done);
-            return;
+            return Some((stop, done));
         }
+    }
+    None
+}
+
+// The same, with a last line.
+pub fn each<F: FnMut() -> Result<(), Stop>>(kind: &[u8], next: F)
+    requires { F.IsAlwaysCallable next }
+{
+    if let Some((stop, done)) = until_stopped(next) {
+        last_line(stop, kind, done);
     }
 }

@@ -10,30 +10,32 @@ ghost use Rattle.renaming.specs.Place.{replaced_at};
 ghost use Rattle.renaming.specs.Parting.{Parted};
 ghost use Rattle.renaming.specs.Bringing.{last_of, Stayed};
 
+use packing::Replacement;
+
 // The weights of the places: those of the four arguments, and that of the value.
 const WEIGHTS: [u64; 5] = [4294967296, 16777216, 65536, 256, 1];
 
-// The entry with s for l at the place of weight p.
+// The entry with the replacement made at the place of weight p.
 #[tactic(auto, using(crate::specs::Place::place_fits, crate::specs::Place::at_there, crate::specs::Place::at_other))]
-fn replace_at(x: u64, p: u64, s: u64, l: u64) -> u64
-    requires { (0 < p) × (s ≤ l) }
-    ensures { result ≡ replaced_at p s l x }
+fn replace_at(x: u64, p: u64, r: Replacement) -> u64
+    requires { (0 < p) × (r.stays ≤ r.goes) }
+    ensures { result ≡ replaced_at p r.stays r.goes x }
 {
-    if x / p % 256 == l {
-        return x - (l - s) * p;
+    if x / p % 256 == r.goes {
+        return x - (r.goes - r.stays) * p;
     }
     x
 }
 
 // The entries that change go to the spare slice, changed, and the others close up. How many went.
-fn set_apart(table: &mut [u64], spare: &mut [u64], p: u64, s: u64, l: u64) -> usize
-    requires { (length table.old ≤ length spare.old) × ((0 < p) × (s ≤ l)) }
-    ensures { Parted (replaced_at p s l) table.old result table.new spare.new }
+fn set_apart(table: &mut [u64], spare: &mut [u64], p: u64, r: Replacement) -> usize
+    requires { (length table.old ≤ length spare.old) × ((0 < p) × (r.stays ≤ r.goes)) }
+    ensures { Parted (replaced_at p r.stays r.goes) table.old result table.new spare.new }
 {
     let mut gone = 0;
     for i in 0..table.len() {
         let x = table[i];
-        let y = replace_at(x, p, s, l);
+        let y = replace_at(x, p, r);
         if y < x {
             spare[gone] = y;
             gone += 1;
@@ -61,6 +63,7 @@ fn bring_back(table: &mut [u64], went: &[u64])
 {
     let mut i = table.len() - went.len();
     let mut j = went.len();
+    // A `while`: each turn one of the two goes down, and which does is not known before.
     while 0 < j {
         let x = went[j - 1];
         let y = last_of(table, i);
@@ -75,20 +78,20 @@ fn bring_back(table: &mut [u64], went: &[u64])
 }
 
 // At the place of weight p, in the whole table.
-fn rename_place(table: &mut [u64], spare: &mut [u64], p: u64, s: u64, l: u64)
-    requires { (length table.old ≤ length spare.old) × ((0 < p) × ((s ≤ l) × Sorted table.old)) }
-    ensures { table.new ≡ order_in (map (replaced_at p s l) table.old) }
+fn rename_place(table: &mut [u64], spare: &mut [u64], p: u64, r: Replacement)
+    requires { (length table.old ≤ length spare.old) × ((0 < p) × ((r.stays ≤ r.goes) × Sorted table.old)) }
+    ensures { table.new ≡ order_in (map (replaced_at p r.stays r.goes) table.old) }
 {
-    let gone = set_apart(table, spare, p, s, l);
+    let gone = set_apart(table, spare, p, r);
     bring_back(table, &spare[..gone]);
 }
 
 // At the places of the four arguments and of the value, with a spare slice that is as long.
-pub fn rename_table(table: &mut [u64], spare: &mut [u64], s: u64, l: u64)
-    requires { (length table.old ≤ length spare.old) × ((s < l) × ((s < 256) × Sorted table.old)) }
-    ensures { table.new ≡ order_in (map (replaced s l) table.old) }
+pub fn rename_table(table: &mut [u64], spare: &mut [u64], r: Replacement)
+    requires { (length table.old ≤ length spare.old) × ((r.stays < r.goes) × Sorted table.old) }
+    ensures { table.new ≡ order_in (map (replaced r.stays r.goes) table.old) }
 {
     for p in &WEIGHTS {
-        rename_place(table, spare, *p, s, l);
+        rename_place(table, spare, *p, r);
     }
 }

@@ -78,15 +78,11 @@ fn lent(s: &[u8]) {
 fn open(head: &[u8], book: &[u8], pool: &mut [u8]) {
     let n = answer(openings::open(book, pool, given(head, 20), given(head, 24)));
     say(b"open ", n as u64);
-    lent(book);
-    lent(pool);
 }
 
 fn step(head: &[u8], book: &[u8], pool: &mut [u8]) {
     let n = answer(running::step(book, pool, given(head, 20), given(head, 24)));
     say(b"step ", n as u64);
-    lent(book);
-    lent(pool);
 }
 
 fn run(head: &[u8], book: &[u8], pool: &mut [u8]) {
@@ -99,16 +95,11 @@ fn run(head: &[u8], book: &[u8], pool: &mut [u8]) {
     );
     say(b"run ", ran.stop as u64);
     say(b" ", ran.steps as u64);
-    lent(book);
-    lent(pool);
 }
 
 fn take(head: &[u8], book: &[u8], pool: &mut [u8], out: &mut [u8]) {
     let n = answer(takings::take(book, pool, given(head, 20), out));
     say(b"take ", n as u64);
-    lent(book);
-    lent(pool);
-    lent(out);
 }
 
 // The call of a record, an arm for each, and its line.
@@ -119,6 +110,12 @@ fn call(head: &[u8; 32], book: &[u8], pool: &mut [u8], out: &mut [u8]) -> Result
         3 => run(head, book, pool),
         4 => take(head, book, pool, out),
         _ => return Err(Stop::Unknown),
+    }
+    lent(book);
+    lent(pool);
+    // A take has its output summed too.
+    if head[0] == 4 {
+        lent(out);
     }
     word(b"\n");
     Ok(())

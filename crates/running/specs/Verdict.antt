@@ -1,7 +1,7 @@
 -- Refusals 1 to 13 of step and run, and the step behind them.
-use Rattle.std.specs.Prelude.{◌≡◌, ℕ, Bool, List, length, Result, MatchResult}
+use Rattle.std.specs.Prelude.{◌≡◌, ℕ, ◌≤◌, ◌<◌, Bool, not, ◌&&◌, ◌||◌, List, length, Result, MatchResult}
 use Rattle.std.proofs.Math.Path.{refl, sym, ap, subst}
-use Rattle.std.proofs.Common.{◌∙◌, arith, eqb-true}
+use Rattle.std.proofs.Common.{◌∙◌, arith, lt-ltb, le-ltb, eq-eqb, ne_eqb, eqb-true}
 use Rattle.std.proofs.Math.Bool.{true, false}
 use Rattle.std.proofs.Math.Dec.{T, eqb}
 use Rattle.std.proofs.lemmas.Bool.{eqb-false}
@@ -14,7 +14,7 @@ use Rattle.rules.specs.Image.{pool_bytes, pool_in}
 use Rattle.rules.specs.Sound.{sound}
 use Rattle.rules.specs.Step.{Answer, refuse, done, Ran, run}
 use Rattle.rules.specs.Bound.{Bound}
-use Rattle.rules.specs.Calls.{right_length, bound_of, known_bound, checked, soundly, Outcome, outcome, step_call, RunOutcome, run_call, StepPromise}
+use Rattle.rules.specs.Calls.{right_length, bounds, bound_of, known_bound, checked, soundly, Outcome, outcome, step_call, RunOutcome, run_call, StepPromise}
 use Rattle.pools.specs.Steps.{Did, refusing, completing, failing, branching, step_did}
 use Rattle.demands.specs.Refusals.{book_refusal}
 use Rattle.demands.specs.Kept.{fits_roomy, sound_tidy, sound_image}
@@ -52,6 +52,25 @@ pub record Verdict (text p : Bytes) (bound number r : ℕ) : Type 0 where
 abbrev pub CallChecked : Bytes → Bytes → ℕ → ℕ → Result declared.Bound Refusal → Type 0
 CallChecked text p bound number r =
     MatchResult r (λ b. Verdict text p bound number 0 × (bound_is b ≡ bound_of bound number)) (λ e. Verdict text p bound number (refusals.number e))
+
+-- ---- which bounds document 01 knows
+
+module _ (bound number : ℕ) where
+  pub bound_unknown : 4 ≤ bound → false ≡ known_bound bound number
+  unfolding known_bound bounds
+  bound_unknown h = sym (ap (λ b. b && (not (eqb bound 0) || eqb number 0)) (le-ltb bound 4 h))
+
+  module _ (h : bound < 4) where
+    within : known_bound bound number ≡ not (eqb bound 0) || eqb number 0
+    unfolding known_bound bounds
+    within = ap (λ b. b && (not (eqb bound 0) || eqb number 0)) (lt-ltb bound 4 h)
+
+    -- No bound is known only with the number 0.
+    pub bound_none : bound ≡ 0 → (r : Bool) → r ≡ eqb number 0 → r ≡ known_bound bound number
+    bound_none e r q = q ∙ sym (within ∙ ap (λ b. not b || eqb number 0) (eq-eqb bound 0 e))
+
+    pub bound_some : (bound ≡ 0 → ⊥) → true ≡ known_bound bound number
+    bound_some n = sym (within ∙ ap (λ b. not b || eqb number 0) (ne_eqb bound 0 n))
 
 -- ---- the ways out
 

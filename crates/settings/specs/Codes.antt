@@ -1,6 +1,6 @@
 -- The numbers of document 01's settings: what stands for what, what a call's number is read as, and the same as the definitions have it.
-use Rattle.std.specs.Prelude.{◌≡◌, refl, ℕ, zero, suc, ◌<◌, ◌≤◌, Result, MatchResult}
-use Rattle.std.proofs.Common.{arith}
+use Rattle.std.specs.Prelude.{◌≡◌, ℕ, zero, suc, ◌<◌, ◌≤◌, min, [], ◌∷◌, get_or, Result, MatchResult}
+use Rattle.std.proofs.Common.{ap, ◌∙◌, arith}
 use Rattle.rules.specs.Pool as pool
 use Rattle.rules.specs.Fire as fire
 use Rattle.refusals.specs.declared.Refusal.{Refusal}
@@ -52,12 +52,8 @@ abbrev pub strategy_is : Strategy → fire.Strategy
 strategy_is Linear = fire.linear
 strategy_is Fair = fire.fair
 
-pub lifo_else : (n : ℕ) → (n ≡ 0 → ⊥) → pool.lifo ≡ pool.scheduler_of n
-unfolding pool.scheduler_of
-lifo_else zero h = absurd (h refl)
-lifo_else (suc n) h = refl
-
-pub fair_else : (n : ℕ) → (n ≡ 0 → ⊥) → fire.fair ≡ pool.strategy_of n
-unfolding pool.strategy_of
-fair_else zero h = absurd (h refl)
-fair_else (suc n) h = refl
+-- Of two things, the first for 0 and the second for any other number.
+pub first_else : {S M : Type 0} (is : S → M) (of : ℕ → M) (a b : S) → is a ≡ of 0 → ((n : ℕ) → is b ≡ of (suc n))
+    → (n : ℕ) (s : S) → s ≡ get_or (a ∷ b ∷ []) (min n 1) s → is s ≡ of n
+first_else is of a b f g zero s e = ap is e ∙ f
+first_else is of a b f g (suc n) s e = let m : min (suc n) 1 ≡ 1 = omega arith in ap is (rw m at e) ∙ g n

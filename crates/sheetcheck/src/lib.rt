@@ -10,8 +10,8 @@ ghost use Rattle.sheetparts.specs.Tests.{sheet_sound, Fair};
 ghost use Rattle.sheetcheck.specs.Lone.{LoneSound};
 
 use counts::sequent_count;
-use limits::Limits;
-use sheetparts::{UNKNOWN, body_right, fill, head_right, room_right};
+use limits::{Limits, SLOT_KEYS};
+use sheetparts::{body_right, fill, head_right, room_right};
 use words::num16;
 
 // A sheet with so many places: its bytes are the image of what they say, and that is sound for the book's names.
@@ -22,9 +22,9 @@ pub fn sheet_sound(book: &[u8], slot: &[u8], places: u64, limits: Limits) -> boo
     if !head_right(slot, places, limits) || !room_right(slot, limits) {
         return false;
     }
-    let mut t = [UNKNOWN; 256];
-    let depths_from = 16 + 8 * limits.keys + 8 * limits.facts;
-    fill(slot, depths_from, 16, num16(slot, 6) as usize, &mut t);
+    let keys = num16(slot, 6) as usize;
+    let mut t = [None; 256];
+    fill(slot, limits.slot_depths_at(), SLOT_KEYS, keys, &mut t);
     body_right(book, &t, slot, limits)
 }
 

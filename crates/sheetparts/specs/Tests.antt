@@ -1,6 +1,6 @@
 -- The tests of a lone sheet, on its bytes: what the code computes, test by test. An entry is eight bytes at a place; a test of keys
 -- serves facts too, as entries of kind 0 and value 0.
-use Rattle.std.specs.Prelude.{◌≡◌, ℕ, ◌+◌, ◌-◌, ◌*◌, ◌≤◌, ◌<◌, min, Bool, true, false, ◌&&◌, ◌||◌, List, [], ◌∷◌, map, get_or, ltb, eqb}
+use Rattle.std.specs.Prelude.{◌≡◌, ℕ, ◌+◌, ◌-◌, ◌*◌, ◌≤◌, ◌<◌, min, Bool, true, false, ◌&&◌, ◌||◌, Option, None, Some, List, [], ◌∷◌, map, get_or, ltb, eqb}
 use Rattle.std.proofs.Math.Dec.{leb}
 use Rattle.base.specs.Branch.{if}
 use Rattle.base.specs.Lists.{equal}
@@ -69,6 +69,11 @@ abbrev pub Lows : Bytes → ℕ → ℕ → ℕ → ℕ → List ℕ → Type 0
 Lows s d at i n t = (e : ℕ) → e < 256 → get_or t e 0 ≡ lowest (key_value s at) (key_depth s d at) (up_to i n) e
 
 -- ---- whole tables
+
+-- A least depth as code has it, as a number: `unknown` for none, else less than that. Depths are at most 256, so none is cut short.
+abbrev pub shown : Option ℕ → ℕ
+shown None = 512
+shown (Some least) = min least 511
 
 -- The arguments are known: some key yields each.
 unfoldable pub known_at : List ℕ → Bytes → ℕ → ℕ → Bool

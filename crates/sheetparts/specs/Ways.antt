@@ -1,16 +1,20 @@
 -- The ways out of the small tests, one law for each.
-use Rattle.std.specs.Prelude.{◌≡◌, refl, Bool, true, false, ◌&&◌, List, map, length, get_or, set, ltb, eqb}
+use Rattle.std.specs.Prelude.{◌≡◌, refl, Bool, true, false, ◌&&◌, Option, None, Some, is_some, MatchOption, List, [], ◌∷◌, map, zero, suc, length, get_or, set, ltb, eqb}
 use Rattle.std.proofs.Common.{sym, ap₂, ◌∙◌, subst, arith, add-one, get_or-set_same, get_or-set_other}
 use Rattle.std.proofs.Math.Path.{ap}
 use Prim.Native.Nat.{ℕ, ◌+◌, ◌-◌, ◌≤◌, ◌<◌, min, max}
 use Rattle.std.proofs.Math.Decide.{ℕ_discrete}
 use borrow.Author.Tests.{lt-ltb, le-ltb, eq-eqb, ne_eqb}
+use Rattle.std.specs.List.{fold, range_with_len}
+use Rattle.std.specs.Option.{unwrap_or}
+use Rattle.std.proofs.lemmas.List.{get_or-map}
 use Rattle.base.specs.Branch.{if}
+use Rattle.base.specs.Lists.{from}
 use Rattle.rules.specs.Book.{Names}
 use Rattle.rules.specs.Bound.{depth_over}
 use Rattle.rules.specs.Sound.{has_arity, declared_as}
-use Rattle.sheetparts.specs.Loops.{up_to, up_next, up_end}
-use Rattle.sheetparts.specs.Tests.{lowest}
+use Rattle.sheetparts.specs.Loops.{up_to, up_next}
+use Rattle.sheetparts.specs.Tests.{lowest, shown, wanted, unknown}
 
 -- ---- a symbol
 
@@ -51,25 +55,29 @@ module _ (d : Names) (kind symbol n : ℕ) where
 
 -- ---- depths
 
--- One argument more in front.
-pub deeper : (f : ℕ → ℕ) (j n k : ℕ) → j < n → k ≡ depth_over (map f (up_to (j + 1) n)) → max (f j + 1) k ≡ depth_over (map f (up_to j n))
-unfolding depth_over
-deeper f j n k h e = sym (ap (λ l. depth_over (map f l)) (up_next j n h) ∙ ap₂ max (sym (add-one (f j))) (sym e))
+-- The greatest so far, handed on from each argument to the next, is the greatest of all.
+handed_on : (f : ℕ → ℕ) (m i n : ℕ) → fold max m (map (λ j. f j + 1) (range_with_len i n)) ≡ max m (depth_over (map f (from i n)))
+unfolding depth_over from
+handed_on f m i zero = omega arith
+handed_on f m i (suc n) =
+    let rest = ap (λ j. max (max m (f i + 1)) (depth_over (map f (from j n)))) (add-one i) in
+    handed_on f (max m (f i + 1)) (i + 1) n ∙ omega (arith, rest)
 
--- The argument before j, of depth x, in a loop that goes down.
-module _ (f : ℕ → ℕ) (j n k x : ℕ) (some : 0 < j) (h : j ≤ n) (q : x ≡ f (j - 1)) (e : k ≡ depth_over (map f (up_to j n))) where
-  both : max (x + 1) k ≡ depth_over (map f (up_to (j - 1) n))
-  both = let z : j ≡ j - 1 + 1 = omega arith in ap (λ y. max (y + 1) k) q ∙ deeper f (j - 1) n k (omega arith) (e ∙ ap (λ i. depth_over (map f (up_to i n))) z)
+pub greatest : (f : ℕ → ℕ) (n : ℕ) → fold max 0 (map (λ j. f j + 1) (range_with_len 0 n)) ≡ depth_over (map f (up_to 0 n))
+unfolding up_to
+greatest f n =
+    let z : n - 0 ≡ n = omega arith in
+    let all = handed_on f 0 0 n in
+    rw z (omega (arith, all))
 
-  pub deep_taken : k < x + 1 → x + 1 ≡ depth_over (map f (up_to (j - 1) n))
-  deep_taken l = omega (arith, both)
-
-  pub deep_left : x + 1 ≤ k → k ≡ depth_over (map f (up_to (j - 1) n))
-  deep_left l = omega (arith, both)
-
-pub none_deep : (f : ℕ → ℕ) (j n : ℕ) → n ≤ j → 0 ≡ depth_over (map f (up_to j n))
-unfolding depth_over
-none_deep f j n h = ap (λ l. depth_over (map f l)) (sym (up_end j n h))
+-- No depth is above 256, the one behind a byte.
+pub few : (f : ℕ → ℕ) → ((j : ℕ) → f j < 256) → (i n : ℕ) → depth_over (map f (up_to i n)) ≤ 256
+unfolding up_to depth_over from
+few f b i n = go i (n - i)
+  where
+    go : (i n : ℕ) → depth_over (map f (from i n)) ≤ 256
+    go i zero = omega arith
+    go i (suc n) = omega (arith, b i, go (suc i) n)
 
 -- One key more in front: its value's depth falls to its own, if that is less.
 module _ (v f : ℕ → ℕ) (i n : ℕ) (h : i < n) where
@@ -91,17 +99,13 @@ module _ (v f : ℕ → ℕ) (i n : ℕ) (h : i < n) where
   abbrev Low : ℕ → List ℕ → Type 0
   Low j t = (e : ℕ) → e < 256 → get_or t e 0 ≡ lowest v f (up_to j n) e
 
-  pub low_kept : (t : List ℕ) → v i < 256 → Low (i + 1) t → get_or t (v i) 0 ≤ f i → Low i t
-  low_kept t b g l e k = elim (ℕ_discrete (v i) e) [
-    | yes p ↦ subst (λ x. get_or t x 0 ≡ lowest v f (up_to i n) x) p (omega (arith, g (v i) b, low_here))
-    | no p ↦ g e k ∙ sym (low_there e p)
-  ]
-
-  pub low_falls : (t : List ℕ) → v i < 256 → length t ≡ 256 → Low (i + 1) t → f i < get_or t (v i) 0 → Low i (set t (v i) (f i))
-  low_falls t b w g l e k = elim (ℕ_discrete (v i) e) [
-    | yes p ↦ subst (λ x. get_or (set t (v i) (f i)) x 0 ≡ lowest v f (up_to i n) x) p (omega (arith, get_or-set_same t (v i) (f i) 0 (omega arith), g (v i) b, low_here))
-    | no p ↦ get_or-set_other t (v i) e (f i) 0 (λ q. p (sym q)) ∙ g e k ∙ sym (low_there e p)
-  ]
+  pub low_met : (t : List ℕ) → v i < 256 → length t ≡ 256 → Low (i + 1) t → Low i (set t (v i) (min (get_or t (v i) 0) (f i)))
+  low_met t b w g e k =
+      let m = min (get_or t (v i) 0) (f i) in
+      elim (ℕ_discrete (v i) e) [
+        | yes p ↦ subst (λ x. get_or (set t (v i) m) x 0 ≡ lowest v f (up_to i n) x) p (omega (arith, get_or-set_same t (v i) m 0 (omega arith), g (v i) b, low_here))
+        | no p ↦ get_or-set_other t (v i) e m 0 (λ q. p (sym q)) ∙ g e k ∙ sym (low_there e p)
+      ]
 
 -- The key before i, of value x and depth y, in a loop that goes down.
 module _ (v f : ℕ → ℕ) (i n x y : ℕ) (t : List ℕ) (some : 0 < i) (h : i ≤ n) (p : x ≡ v (i - 1)) (q : y ≡ f (i - 1)) (b : x < 256)
@@ -109,13 +113,10 @@ module _ (v f : ℕ → ℕ) (i n x y : ℕ) (t : List ℕ) (some : 0 < i) (h : 
   lows : (e : ℕ) → e < 256 → get_or t e 0 ≡ lowest v f (up_to (i - 1 + 1) n) e
   lows e k = let z : i ≡ i - 1 + 1 = omega arith in g e k ∙ ap (λ j. lowest v f (up_to j n) e) z
 
-  pub keys_kept : get_or t x 0 ≤ y → (e : ℕ) → e < 256 → get_or t e 0 ≡ lowest v f (up_to (i - 1) n) e
-  keys_kept l = low_kept v f (i - 1) n (omega arith) t (omega arith) lows (subst (λ z. get_or t z 0 ≤ f (i - 1)) p (omega arith))
-
-  pub keys_fall : length t ≡ 256 → y < get_or t x 0 → (e : ℕ) → e < 256 → get_or (set t x y) e 0 ≡ lowest v f (up_to (i - 1) n) e
-  keys_fall w l e k =
-      ap₂ (λ (a z : ℕ). get_or (set t a z) e 0) p q
-      ∙ low_falls v f (i - 1) n (omega arith) t (omega arith) w lows (subst (λ z. f (i - 1) < get_or t z 0) p (omega arith)) e k
+  pub key_met : length t ≡ 256 → (e : ℕ) → e < 256 → get_or (set t x (min (get_or t x 0) y)) e 0 ≡ lowest v f (up_to (i - 1) n) e
+  key_met w e k =
+      ap₂ (λ (a z : ℕ). get_or (set t a (min (get_or t a 0) z)) e 0) p q
+      ∙ low_met v f (i - 1) n (omega arith) t (omega arith) w lows e k
 
 -- ---- a branch whose test is known
 
@@ -126,3 +127,34 @@ on b f g e = rw e
 pub off : {A : Type 0} (b : Bool) (f g : Unit {0} → A) → b ≡ false → if b f g ≡ g tt
 unfolding if
 off b f g e = rw e
+
+-- ---- a table of least depths as code has it
+
+shown_known : (o : Option ℕ) → is_some o ≡ ltb (shown o) 512
+shown_known None = refl
+shown_known (Some least) = sym (lt-ltb (min least 511) 512 (omega arith))
+
+shown_wanted : (o : Option ℕ) (x : ℕ) → x < 256 → eqb x (unwrap_or o 0) ≡ eqb x (wanted (shown o))
+unfolding wanted unknown if
+shown_wanted None x h = refl
+shown_wanted (Some least) x h =
+    let m = min least 511 in
+    let told = off (eqb m 512) (λ _. 0) (λ _. m) (ne_eqb m 512 (omega arith)) in
+    elim (ℕ_discrete x least) [
+      | yes p ↦ ap (λ d. eqb x d) (omega (arith, p, told))
+      | no p ↦ ne_eqb x least p ∙ sym (ne_eqb x (wanted m) (λ q. p (omega (arith, q, h, told))))
+    ]
+
+pub known : (t : List (Option ℕ)) (e : ℕ) → e < length t → is_some (get_or t e None) ≡ ltb (get_or (map shown t) e 0) 512
+known t e h = shown_known (get_or t e None) ∙ ap (λ x. ltb x 512) (sym (get_or-map shown t e None 0 h))
+
+pub depth_wanted : (t : List (Option ℕ)) (e x : ℕ) → x < 256 → eqb x (unwrap_or (get_or t e None) 0) ≡ eqb x (wanted (get_or (map shown t) e 0))
+unfolding wanted unknown if
+depth_wanted [] e x b = refl
+depth_wanted (o ∷ t) zero x b = shown_wanted o x b
+depth_wanted (o ∷ t) (suc e) x b = depth_wanted t e x b
+
+-- The lesser of the least depth so far and an entry's.
+pub lesser : (o : Option ℕ) (deep r : ℕ) → deep ≤ 256 → MatchOption o (r ≡ deep) (λ least. r ≡ min least deep) → shown (Some r) ≡ min (shown o) deep
+lesser None deep r h e = omega arith
+lesser (Some least) deep r h e = omega arith

@@ -2,25 +2,22 @@
 // symbols with their arities, rising entries, known arguments, depths. Readers are total, so any bytes are taken.
 #![tactic(auto)]
 
-ghost use Rattle.std.specs.Prelude.{◌≡◌, ◌+◌, ◌*◌, ◌≤◌, ◌<◌, length};
+ghost use Rattle.std.specs.Prelude.{◌≡◌, ◌+◌, ◌*◌, ◌≤◌, ◌<◌, map, get_or, ltb};
 ghost use Rattle.rules.specs.Reading.{num};
 ghost use Rattle.rules.specs.Sound.{has_arity, declared_as};
 ghost use Rattle.texts.specs.Names.{names_in};
 ghost use Rattle.limits.specs.Limits.{limits_of};
-ghost use Rattle.sheetparts.specs.Tests.{zeros, spare, named, key_number, rises, entry_depth, Lows, args_known, entry_right, table_right, wanted, depths_right, head_right, room_right, body_right, Fair};
+ghost use Rattle.sheetparts.specs.Tests.{zeros, spare, named, key_number, rises, entry_depth, Lows, shown, unknown, args_known, entry_right, table_right, depths_right, head_right, room_right, body_right, Fair};
 
 use counts::{
     constant_witnesses, constants, function_arity, function_witnesses, functions, relation_arity,
     relations, witness_arity,
 };
-use limits::Limits;
+use limits::{Limits, SLOT_KEYS};
 use words::{byte, num16};
 
-// In a table of least depths: no key yields the element. A number that no depth reaches, so that a key's depth is less than it as it
-// is less than a depth.
-pub const UNKNOWN: u64 = 512;
-
-// n bytes from a place on are zero. No slice is cut: a place past the end reads as 0.
+// n bytes from a place on are zero. No slice is cut: a place past the end reads as 0. Inlined into the check of a pool its loop was slower.
+#[inline(never)]
 pub fn zeros(s: &[u8], at: usize, n: usize) -> bool
     requires { (at < 4294967296) × (n < 4294967296) }
     ensures { result ≡ zeros s.now at n }
@@ -59,26 +56,12 @@ fn declared(book: &[u8], kind: u64, symbol: u64, n: u64) -> bool
     }
 }
 
-// A fact's symbol, of kind 0, or a key's. A flag says which, as it does in the definition.
-fn named(book: &[u8], facts: bool, kind: u64, symbol: u64, n: u64) -> bool
-    ensures { result ≡ named (names_in book.now) facts kind symbol n }
-{
-    if facts {
-        kind == 0 && related(book, symbol, n)
-    } else {
-        declared(book, kind, symbol, n)
-    }
-}
-
 // The seven bytes of a key as a number.
-#[tactic(auto, unfolding(crate::specs::Tests::key_number, packing::specs::Digits::number_from))]
 fn key_number(s: &[u8], at: usize) -> u64
     requires { at < 2147483648 }
-    ensures { (result ≡ key_number s.now at) × (result < 72057594037927936) }
+    ensures { result ≡ key_number s.now at }
 {
-    let top = (byte(s, at) * 256 + byte(s, at + 1)) * 256 + byte(s, at + 2);
-    let mid = (top * 256 + byte(s, at + 3)) * 256 + byte(s, at + 4);
-    (mid * 256 + byte(s, at + 5)) * 256 + byte(s, at + 6)
+    (0..7).fold(0, |number, i| number * 256 + byte(s, at + i))
 }
 
 // The first entry, or one above the entry before it.
@@ -95,82 +78,89 @@ fn entry_depth(s: &[u8], d: usize, at: usize) -> u64
     requires { (d < 2147483648) × (at < 2147483648) }
     ensures { (result ≡ entry_depth s.now d at) × (result ≤ 256) }
 {
-    let n = byte(s, at + 2) as usize;
-    let mut most = 0;
-    for j in (0..n).rev() {
-        let e = byte(s, at + 3 + j) as usize;
-        let deep = byte(s, d + e) + 1;
-        if most < deep {
-            most = deep;
-        }
-    }
-    most
+    (0..byte(s, at + 2) as usize)
+        .map(|j| byte(s, d + byte(s, at + 3 + j) as usize) + 1)
+        .fold(0, u64::max)
 }
 
 // For each element the least depth over n keys; what no key yields stays as it was.
-pub fn fill(s: &[u8], d: usize, at: usize, n: usize, t: &mut [u64])
-    requires { ((d < 2147483648) × ((at < 1073741824) × (n < 65536))) × ((length t.old ≡ 256) × Lows s.now d at n n t.old) }
-    ensures { Lows s.now d at 0 n t.new }
+pub fn fill(s: &[u8], d: usize, at: usize, n: usize, t: &mut [Option<u16>; 256])
+    requires { ((d < 2147483648) × ((at < 1073741824) × (n < 65536))) × Lows s.now d at n n (map shown t.old) }
+    ensures { Lows s.now d at 0 n (map shown t.new) }
 {
     for i in (0..n).rev() {
-        let deep = entry_depth(s, d, at + 8 * i);
+        let deep = entry_depth(s, d, at + 8 * i) as u16;
         let e = byte(s, at + 8 * i + 7) as usize;
-        if deep < t[e] {
-            t[e] = deep;
-        }
+        t[e] = Some(t[e].map_or(deep, |least| least.min(deep)));
     }
 }
 
-// The arguments of an entry are known: some key yields each.
-fn args_known(t: &[u64], s: &[u8], at: usize) -> bool
-    requires { (at < 2147483648) × (length t.now ≡ 256) }
-    ensures { result ≡ args_known t.now s.now at }
+// Does some key yield the element?
+#[tactic(auto, using(crate::specs::Ways::known), unfolding(crate::specs::Tests::unknown))]
+fn known(t: &[Option<u16>; 256], e: u64) -> bool
+    requires { e < 256 }
+    ensures { result ≡ ltb (get_or (map shown t.now) e 0) unknown }
 {
-    let n = byte(s, at + 2) as usize;
-    (0..n).all(|j| t[byte(s, at + 3 + j) as usize] < UNKNOWN)
+    t[e as usize].is_some()
 }
 
-// An entry by itself: its symbol, its room, its value below a bound, its arguments.
-#[tactic(auto, unfolding(crate::specs::Tests::entry_right))]
-fn entry_right(book: &[u8], facts: bool, bound: u64, t: &[u64], s: &[u8], at: usize) -> bool
-    requires { (at < 2147483648) × (length t.now ≡ 256) }
-    ensures { result ≡ entry_right (names_in book.now) facts bound t.now s.now at }
-{
-    named(book, facts, byte(s, at), byte(s, at + 1), byte(s, at + 2))
-        && spare(s, at)
-        && byte(s, at + 7) < bound
-        && args_known(t, s, at)
-}
-
-// A table of keys or facts: n entries from a place on, each right and above the one before it.
-fn table_right(
-    book: &[u8],
+// What a table's entries are held to: a book's symbols, of facts or of keys, a bound of their values, and the least depths.
+#[derive(Clone, Copy)]
+struct Table<'a> {
+    book: &'a [u8],
     facts: bool,
     bound: u64,
-    t: &[u64],
-    s: &[u8],
-    at: usize,
-    n: usize,
-) -> bool
-    requires { ((at < 1073741824) × (n < 65536)) × (length t.now ≡ 256) }
-    ensures { result ≡ table_right (names_in book.now) facts bound t.now s.now at n }
-{
-    (0..n).all(|i| entry_right(book, facts, bound, t, s, at + 8 * i) && rises(s, at, i))
+    t: &'a [Option<u16>; 256],
+}
+
+impl Table<'_> {
+    // A fact's symbol, of kind 0, or a key's. A flag says which, as it does in the definition.
+    fn named(&self, kind: u64, symbol: u64, n: u64) -> bool
+        ensures { result ≡ named (names_in self.now.book.now) self.now.facts kind symbol n }
+    {
+        if self.facts {
+            kind == 0 && related(self.book, symbol, n)
+        } else {
+            declared(self.book, kind, symbol, n)
+        }
+    }
+
+    // The arguments of an entry are known: some key yields each.
+    fn args_known(&self, s: &[u8], at: usize) -> bool
+        requires { at < 2147483648 }
+        ensures { result ≡ args_known (map shown self.now.t.now) s.now at }
+    {
+        let n = byte(s, at + 2) as usize;
+        (0..n).all(|j| known(self.t, byte(s, at + 3 + j)))
+    }
+
+    // An entry by itself: its symbol, its room, its value below the bound, its arguments.
+    #[tactic(auto, unfolding(crate::specs::Tests::entry_right))]
+    fn entry_right(&self, s: &[u8], at: usize) -> bool
+        requires { at < 2147483648 }
+        ensures { result ≡ entry_right (names_in self.now.book.now) self.now.facts self.now.bound (map shown self.now.t.now) s.now at }
+    {
+        self.named(byte(s, at), byte(s, at + 1), byte(s, at + 2))
+            && spare(s, at)
+            && byte(s, at + 7) < self.bound
+            && self.args_known(s, at)
+    }
+
+    // n entries from a place on, each right and above the one before it.
+    fn right(&self, s: &[u8], at: usize, n: usize) -> bool
+        requires { (at < 1073741824) × (n < 65536) }
+        ensures { result ≡ table_right (names_in self.now.book.now) self.now.facts self.now.bound (map shown self.now.t.now) s.now at n }
+    {
+        (0..n).all(|i| self.entry_right(s, at + 8 * i) && rises(s, at, i))
+    }
 }
 
 // Each element's depth is the least over its keys; 0 if no key yields it.
-fn depths_right(t: &[u64], s: &[u8], d: usize, n: usize) -> bool
-    requires { (d < 2147483648) × ((n ≤ 256) × (length t.now ≡ 256)) }
-    ensures { result ≡ depths_right t.now s.now d n }
+fn depths_right(t: &[Option<u16>; 256], s: &[u8], d: usize, n: usize) -> bool
+    requires { (d < 2147483648) × (n ≤ 256) }
+    ensures { result ≡ depths_right (map shown t.now) s.now d n }
 {
-    (0..n).all(|e| byte(s, d + e) == wanted(t[e]))
-}
-
-// The depth that is wanted: the least, or 0 if no key yields the element.
-fn wanted(least: u64) -> u64
-    ensures { result ≡ wanted least }
-{
-    if least == UNKNOWN { 0 } else { least }
+    (0..n).all(|e| byte(s, d + e) == t[e].unwrap_or(0) as u64)
 }
 
 // Counts within the limits, the place among so many, and the head's unused bytes.
@@ -194,25 +184,37 @@ pub fn room_right(slot: &[u8], limits: Limits) -> bool
     let c = num16(slot, 4) as usize;
     let k = num16(slot, 6) as usize;
     let f = num16(slot, 8) as usize;
-    let facts_from = 16 + 8 * limits.keys;
-    let depths_from = facts_from + 8 * limits.facts;
-    zeros(slot, 16 + 8 * k, 8 * limits.keys - 8 * k)
-        && zeros(slot, facts_from + 8 * f, 8 * limits.facts - 8 * f)
-        && zeros(slot, depths_from + c, limits.elements - c)
+    zeros(slot, SLOT_KEYS + 8 * k, 8 * limits.keys - 8 * k)
+        && zeros(
+            slot,
+            limits.slot_facts_at() + 8 * f,
+            8 * limits.facts - 8 * f,
+        )
+        && zeros(slot, limits.slot_depths_at() + c, limits.elements - c)
 }
 
 // Keys, facts and depths, given the least depths over the keys.
 #[tactic(auto, unfolding(crate::specs::Tests::body_right, crate::specs::Tests::facts_from, crate::specs::Tests::depths_from))]
-pub fn body_right(book: &[u8], t: &[u64], slot: &[u8], limits: Limits) -> bool
-    requires { (Fair (limits_of limits) × (num slot.now 4 ≤ 256)) × (length t.now ≡ 256) }
-    ensures { result ≡ body_right (limits_of limits) (names_in book.now) t.now slot.now }
+pub fn body_right(book: &[u8], t: &[Option<u16>; 256], slot: &[u8], limits: Limits) -> bool
+    requires { Fair (limits_of limits) × (num slot.now 4 ≤ 256) }
+    ensures { result ≡ body_right (limits_of limits) (names_in book.now) (map shown t.now) slot.now }
 {
     let c = num16(slot, 4);
     let k = num16(slot, 6) as usize;
     let f = num16(slot, 8) as usize;
-    let facts_from = 16 + 8 * limits.keys;
-    let depths_from = facts_from + 8 * limits.facts;
-    table_right(book, false, c, t, slot, 16, k)
-        && table_right(book, true, 1, t, slot, facts_from, f)
-        && depths_right(t, slot, depths_from, c as usize)
+    let keys = Table {
+        book,
+        facts: false,
+        bound: c,
+        t,
+    };
+    let facts = Table {
+        book,
+        facts: true,
+        bound: 1,
+        t,
+    };
+    keys.right(slot, SLOT_KEYS, k)
+        && facts.right(slot, limits.slot_facts_at(), f)
+        && depths_right(t, slot, limits.slot_depths_at(), c as usize)
 }

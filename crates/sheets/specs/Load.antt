@@ -1,14 +1,15 @@
 -- A form written region by region shows what was written; and what loading a slot's bytes writes.
-use Rattle.std.specs.Prelude.{◌≡◌, refl, ℕ, zero, suc, ◌+◌, ◌-◌, ◌*◌, ◌≤◌, ◌<◌, min, List, [], ◌∷◌, ◌++◌, get_or, take, drop, set}
-use Rattle.std.proofs.Common.{sym, ap, ap₂, ◌∙◌, subst, arith, add-one, append_assoc, length-append, length-drop, length-take-le, take-append-drop, take_at, drop-cons, drop-drop}
+use Rattle.std.specs.Prelude.{◌≡◌, refl, ℕ, zero, suc, ◌+◌, ◌-◌, ◌≤◌, ◌<◌, min, List, [], ◌∷◌, ◌++◌, get_or, take, drop, set}
+use Rattle.std.proofs.Common.{sym, ap, ap₂, ◌∙◌, arith, add-one, append_assoc, length-append, length-drop, length-take-le, take-append-drop, take_at, drop-cons, drop-drop}
 use Rattle.std.proofs.Math.ListN.{length, get_or-append}
 use Rattle.std.proofs.lemmas.List.{set_at}
 use Rattle.std.proofs.Math.Seq.{append_snoc}
-use borrow.Rule.Slice.PartMut.{put_mid}
+use borrow.Rule.Slice.PartMut.{put_mid, mid_of, mid_len}
 use Rattle.base.specs.Lists.{from}
 use Rattle.rules.specs.Reading.{Bytes, num}
 use Rattle.rules.specs.Sheet.{Limits}
 use Rattle.rules.specs.Image.{part}
+use Rattle.limits.specs.Limits.{slot_facts_at, slot_depths_at}
 use Rattle.octets.specs.Patch.{patched, patched_length, patched_part}
 use Rattle.octets.specs.Words.{numbers_at}
 use Rattle.sheets.specs.Parts.{part_here, part_before, count_before}
@@ -87,8 +88,8 @@ view_in lim s = record {
   place = num s 2;
   created = min (num s 4) lim.elements;
   keys = numbers_at s 16 (min (num s 6) lim.keys);
-  facts = numbers_at s (16 + 8 * lim.keys) (min (num s 8) lim.facts);
-  depths = take (min (num s 4) lim.elements) (drop (16 + 8 * lim.keys + 8 * lim.facts) s);
+  facts = numbers_at s (slot_facts_at lim) (min (num s 8) lim.facts);
+  depths = take (min (num s 4) lim.elements) (drop (slot_depths_at lim) s);
   history = from 0 lim.elements;
 }
 
@@ -146,6 +147,14 @@ region_front at room n k p w ys h q e l r =
       front = take_at ys rest n (omega arith) ∙ r;
     }
 
+-- So it is where the front is what some read gives for as many entries as it has.
+pub region_read : (read : ℕ → List ℕ) (at room n : ℕ) (w ys : List ℕ) → n ≤ room → at + room ≤ length w
+    → length ys ≡ length (mid_of at (at + n - at) w) → ys ≡ read (length (mid_of at (at + n - at) w))
+    → Region at room n (read n) w (put_mid at (at + n - at) w ys)
+region_read read at room n w ys h q l e =
+    let z : length (mid_of at (at + n - at) w) ≡ at + n - at = mid_len at (at + n) w (omega arith) in
+    region_front at room n (at + n - at) (read n) w ys h q (omega arith) (l ∙ z) (e ∙ ap read (z ∙ omega arith))
+
 -- The counts as they were read, and as they stand in the form.
 pub record Counted (lim : Limits) (s : Bytes) (c k f : ℕ) (w w' : List ℕ) : Type 0 where
   pub made : w' ≡ patched 0 (num s 0 ∷ num s 2 ∷ min (num s 4) lim.elements ∷ min (num s 6) lim.keys ∷ min (num s 8) lim.facts ∷ []) w
@@ -195,15 +204,10 @@ load_made lim s w w₁ w₂ w₃ w₄ w₅ size e k f d n =
       view = λ i. record { number = count 0 (omega arith) i; place = count 1 (omega arith) i; created = n₂ i; keys = ks i; facts = fs i; depths = ds i; history = ns i };
     }
 
-pub loaded : (lim : Limits) (s w w₁ w₂ w₃ w₄ w₅ : List ℕ) (c k f : ℕ) → length w ≡ form_size lim → Counted lim s c k f w w₁
-    → Region keys_at lim.keys k (numbers_at s 16 k) w₁ w₂
-    → Region (facts_at lim) lim.facts f (numbers_at s (16 + 8 * lim.keys) f) w₂ w₃
-    → Region (depths_at lim) lim.elements c (take c (drop (16 + 8 * lim.keys + 8 * lim.facts) s)) w₃ w₄
-    → Region (history_at lim) lim.elements lim.elements (from 0 lim.elements) w₄ w₅
-    → Loaded lim s w₅
+pub loaded : (lim : Limits) (s w w₁ w₂ w₃ w₄ w₅ : List ℕ) (c k f at₁ at₂ at₃ from₁ from₂ : ℕ) → at₁ ≡ facts_at lim → at₂ ≡ depths_at lim → at₃ ≡ history_at lim
+    → from₁ ≡ slot_facts_at lim → from₂ ≡ slot_depths_at lim → length w ≡ form_size lim → Counted lim s c k f w w₁
+    → Region keys_at lim.keys k (numbers_at s 16 k) w₁ w₂ → Region at₁ lim.facts f (numbers_at s from₁ f) w₂ w₃
+    → Region at₂ lim.elements c (take c (drop from₂ s)) w₃ w₄ → Region at₃ lim.elements lim.elements (from 0 lim.elements) w₄ w₅ → Loaded lim s w₅
 unfolding view_in
-loaded lim s w w₁ w₂ w₃ w₄ w₅ c k f size m a b d n =
-    load_made lim s w w₁ w₂ w₃ w₄ w₅ size m.made
-    (subst (λ j. Region keys_at lim.keys j (numbers_at s 16 j) w₁ w₂) m.keys a)
-    (subst (λ j. Region (facts_at lim) lim.facts j (numbers_at s (16 + 8 * lim.keys) j) w₂ w₃) m.facts b)
-    (subst (λ j. Region (depths_at lim) lim.elements j (take j (drop (16 + 8 * lim.keys + 8 * lim.facts) s)) w₃ w₄) m.created d) n
+loaded lim s w w₁ w₂ w₃ w₄ w₅ c k f at₁ at₂ at₃ from₁ from₂ p₁ p₂ p₃ q₁ q₂ size m a b d n =
+    load_made lim s w w₁ w₂ w₃ w₄ w₅ size m.made (rw m.keys at a) (rw (p₁, q₁, m.facts) at b) (rw (p₂, q₂, m.created) at d) (rw p₃ at n)

@@ -14,6 +14,11 @@ pub part_length : (a n : ℕ) (s : List ℕ) → a + n ≤ length s → length (
 unfolding part
 part_length a n s h = length-take-le n (drop a s) (omega (arith, length-drop a s))
 
+-- A part that is lent as far as it goes.
+pub part_lent : (a n : ℕ) (s : List ℕ) → take (a + n - a) (drop a s) ≡ part a n s
+unfolding part
+part_lent a n s = let z : a + n - a ≡ n = omega arith in ap (λ k. take k (drop a s)) z
+
 -- The front of a part that is lent.
 pub part_front : (a k n : ℕ) (s : List ℕ) → n ≤ k → take n (take k (drop a s)) ≡ part a n s
 unfolding part

@@ -1,6 +1,6 @@
 -- What is left of things that follow one another, for a loop that walks over them.
 use Rattle.std.specs.Prelude.{◌≡◌, ℕ, zero, suc, ◌+◌, ◌-◌, ◌≤◌, ◌<◌, List, [], ◌∷◌, length}
-use Rattle.std.proofs.Common.{sym, subst, arith, add-one}
+use Rattle.std.proofs.Common.{Bor, sym, subst, arith, add-one}
 use Rattle.texts.specs.Reads.{Follow}
 use Rattle.texts.specs.Parts.{follow_grows}
 
@@ -67,6 +67,10 @@ module _ {A : Type 0} (R : ℕ → A → ℕ → Type 0) (g : Grows R) (len at n
 
   pub left_end : (i p : ℕ) → n ≤ i → Left R len at n i p → SkipsMany R len at n p
   left_end i p h r xs e f c l = rest_end R p (n - i) e (omega arith) (r xs e f c l)
+
+-- What a walk answers at a value, wherever the value is lent from.
+abbrev pub Gives : {T : Type 0} → (Bor T → ℕ → ℕ → Type 0) → T → ℕ → ℕ → Type 0
+Gives {T} R x p q = (b : Bor T) × ((b.now ≡ x) × R b p q)
 
 -- So many steps of R, each from a place within the text, lead from a place to another.
 abbrev pub Chain : (ℕ → ℕ → Type 0) → ℕ → ℕ → ℕ → ℕ → Type 0

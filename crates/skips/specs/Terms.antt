@@ -1,11 +1,11 @@
 -- Terms still to come: a term's own arguments stand before the terms behind it, so that one count suffices.
-use Rattle.std.specs.Prelude.{◌≡◌, ℕ, suc, ◌+◌, ◌-◌, ◌≤◌, ◌<◌, length, get_or, eqb}
+use Rattle.std.specs.Prelude.{◌≡◌, ℕ, suc, ◌+◌, ◌-◌, ◌*◌, ◌/◌, ◌≤◌, ◌<◌, length, get_or, eqb}
 use Rattle.std.proofs.Common.{sym, ap, subst, arith, eq-eqb, ne_eqb}
 use Rattle.base.specs.Branch.{if}
 use Rattle.rules.specs.Book.{var, con, app, Terms, nil, cons, Names}
 use Rattle.rules.specs.Reading.{Bytes, num}
 use Rattle.texts.specs.Text.{count, TermText, TermsText}
-use Rattle.texts.specs.Parts.{term_grows, terms_grow}
+use Rattle.texts.specs.Parts.{term_grows}
 
 unfoldable pub below_at : Names → Bytes → ℕ → ℕ
 below_at n s at = if (eqb (num s at) 2) (λ _. get_or n.functions (num s (at + 2)) 0) (λ _. 0)
@@ -61,10 +61,14 @@ coming_next n s p k e h c = go c.terms c.stands c.counted
           counted = omega (arith, joined_count ts us, below_some n s p a.0, ap (λ g. get_or n.functions g 0) a.1.0, a.1.1.0);
         }
 
-never_short : (n : Names) (s : Bytes) (p k e : ℕ) → 0 < k → length s - p < 4 → (us : Terms) → TermsText n s p us e → count us ≡ k → e ≤ length s → ⊥
+-- Each of them has four bytes or more.
+terms_room : (n : Names) (s : Bytes) (p : ℕ) (us : Terms) (e : ℕ) → TermsText n s p us e → p + 4 * count us ≤ e
 unfolding TermsText count
-never_short n s p k e h w nil x c l = omega arith
-never_short n s p k e h w (cons t us) x c l = omega (arith, term_grows n s p t x.0 x.1.0, terms_grow n s x.0 us e x.1.1)
+terms_room n s p nil e x = omega (arith, x)
+terms_room n s p (cons t us) e x = omega (arith, term_grows n s p t x.0 x.1.0, terms_room n s x.0 us e x.1.1)
+
+never_short : (n : Names) (s : Bytes) (p k e : ℕ) → (length s - p) / 4 < k → (us : Terms) → TermsText n s p us e → count us ≡ k → e ≤ length s → ⊥
+never_short n s p k e w us x c l = omega (arith, terms_room n s p us e x)
 
 none_left : (n : Names) (s : Bytes) (p k e : ℕ) → k ≡ 0 → (us : Terms) → TermsText n s p us e → count us ≡ k → p ≡ e
 unfolding TermsText count
@@ -79,9 +83,9 @@ module _ (n : Names) (s : Bytes) (at k : ℕ) where
   pub awaits_next : (p left : ℕ) → 0 < left → Awaits n s at k p left → Awaits n s at k (p + 4) (left - 1 + below_at n s p)
   awaits_next p left h a ts e x c l = coming_next n s p left e h (a ts e x c l)
 
-  -- Where a term is awaited the text is not at its end.
-  pub awaits_short : (p left r : ℕ) → 0 < left → length s - p < 4 → Awaits n s at k p left → SkipsTerms n s at k r
-  awaits_short p left r h w a ts e x c l = let b = a ts e x c l in absurd (never_short n s p left e h w b.terms b.stands b.counted l)
+  -- Where so many terms are awaited there is text for them.
+  pub awaits_short : (p left r : ℕ) → (length s - p) / 4 < left → Awaits n s at k p left → SkipsTerms n s at k r
+  awaits_short p left r w a ts e x c l = let b = a ts e x c l in absurd (never_short n s p left e w b.terms b.stands b.counted l)
 
   pub awaits_end : (p left : ℕ) → left ≡ 0 → Awaits n s at k p left → SkipsTerms n s at k p
   awaits_end p left z a ts e x c l = let b = a ts e x c l in none_left n s p left e z b.terms b.stands b.counted

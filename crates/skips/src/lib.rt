@@ -6,150 +6,130 @@
 ghost use Rattle.std.specs.Prelude.{◌≡◌, ℕ, ◌+◌, ◌≤◌, ◌<◌, length};
 ghost use Rattle.texts.specs.Names.{names_in};
 ghost use Rattle.texts.specs.Text.{LiteralText, OriginText, DisjunctText, SequentText};
-ghost use Rattle.skips.specs.Rest.{Within, Skips, SkipsMany, Chain};
+ghost use Rattle.skips.specs.Rest.{Within, Skips, SkipsMany, Gives, Chain};
 ghost use Rattle.skips.specs.Terms.{below_at, SkipsTerms};
 
-use counts::{function_arity, relation_arity};
+use counts::function_arity;
+use nodes::{Claim, Text, claim_at};
 use words::num16;
 
 // How many terms stand directly below the one at a place.
-fn below(book: &[u8], text: &[u8], at: usize) -> u64
-    requires { at + 4 ≤ length text.now }
-    ensures { (result ≡ below_at (names_in book.now) text.now at) × (result < 65536) }
+fn below(s: &Text<'_>, at: usize) -> u64
+    requires { at + 4 ≤ length s.now.bytes.now }
+    ensures { (result ≡ below_at (names_in s.now.book.now) s.now.bytes.now at) × (result < 65536) }
 {
-    if num16(text, at) == 2 {
-        return function_arity(book, num16(text, at + 2));
+    if num16(s.bytes, at) == 2 {
+        return function_arity(s.book, num16(s.bytes, at + 2));
     }
     0
 }
 
-// So many things that follow one another in a text of this length, each walked over by `one`, which stays within the text.
-fn skip_many<F: Fn(usize) -> usize>(len: usize, at: usize, n: u64, one: F) -> usize
-    requires start { at ≤ len }
-    requires callable { (p : ℕ) → p ≤ len → F.pre one p }
-    requires stays { (p q : ℕ) → p ≤ len → F.post one p q → Within p len q }
-    ensures within { Within at len result }
-    ensures chained { Chain (F.post one) len n at result }
+// So many things that follow one another in a text, each walked over by `one`, which stays within the text.
+fn skip_many<F: Fn(&Text<'_>, usize) -> usize>(s: &Text<'_>, at: usize, n: u64, one: F) -> usize
+    requires start { at ≤ length s.now.bytes.now }
+    requires callable { (p : ℕ) → p ≤ length s.now.bytes.now → F.pre one s p }
+    requires stays { (p q : ℕ) → p ≤ length s.now.bytes.now → F.post one s p q → Within p (length s.now.bytes.now) q }
+    ensures within { Within at (length s.now.bytes.now) result }
+    ensures chained { Chain (Gives (F.post one) s.now) (length s.now.bytes.now) n at result }
 {
     let mut p = at;
     for _ in 0..n {
-        p = one(p);
+        p = one(s, p);
     }
     p
 }
 
-// So many terms. A `while`: those still to come are counted, and each term adds those below it.
-pub fn skip_terms(book: &[u8], text: &[u8], at: usize, n: u64) -> usize
-    requires { (at ≤ length text.now) × ((length text.now ≤ 32768) × (n < 65536)) }
-    ensures { Within at (length text.now) result × SkipsTerms (names_in book.now) text.now at n result }
+// So many terms. A `while`: those still to come are counted, and each term adds those below it. The text is too short where it has
+// not four bytes for each of them.
+pub fn skip_terms(s: &Text<'_>, at: usize, n: u64) -> usize
+    requires { at ≤ length s.now.bytes.now }
+    ensures { Within at (length s.now.bytes.now) result × SkipsTerms (names_in s.now.book.now) s.now.bytes.now at n result }
 {
     let mut left = n;
     let mut p = at;
     while left > 0 {
-        if text.len() - p < 4 {
-            return text.len();
+        if (((s.bytes.len() - p) / 4) as u64) < left {
+            return s.bytes.len();
         }
-        left = left - 1 + below(book, text, p);
+        left = left - 1 + below(s, p);
         p += 4;
     }
     p
 }
 
-pub fn skip_literal(book: &[u8], text: &[u8], at: usize) -> usize
-    requires { (at ≤ length text.now) × (length text.now ≤ 32768) }
-    ensures { Within at (length text.now) result × Skips (LiteralText (names_in book.now) text.now) (length text.now) at result }
+pub fn skip_literal(s: &Text<'_>, at: usize) -> usize
+    requires { at ≤ length s.now.bytes.now }
+    ensures { Within at (length s.now.bytes.now) result × Skips (LiteralText (names_in s.now.book.now) s.now.bytes.now) (length s.now.bytes.now) at result }
 {
-    if text.len() - at < 4 {
-        return text.len();
+    match claim_at(s, at) {
+        None => s.bytes.len(),
+        Some(Claim::Fact(_, n)) => skip_terms(s, at + 4, n),
+        Some(Claim::Same) => skip_terms(s, at + 2, 2),
     }
-    if num16(text, at) == 0 {
-        let r = num16(text, at + 2);
-        return skip_terms(book, text, at + 4, relation_arity(book, r));
-    }
-    skip_terms(book, text, at + 2, 2)
 }
 
-pub fn skip_literals(book: &[u8], text: &[u8], at: usize, n: u64) -> usize
-    requires { (at ≤ length text.now) × (length text.now ≤ 32768) }
-    ensures { Within at (length text.now) result × SkipsMany (LiteralText (names_in book.now) text.now) (length text.now) at n result }
+pub fn skip_literals(s: &Text<'_>, at: usize, n: u64) -> usize
+    requires { at ≤ length s.now.bytes.now }
+    ensures { Within at (length s.now.bytes.now) result × SkipsMany (LiteralText (names_in s.now.book.now) s.now.bytes.now) (length s.now.bytes.now) at n result }
 {
-    skip_many(text.len(), at, n, |p| skip_literal(book, text, p))
+    skip_many(s, at, n, skip_literal)
 }
 
-pub fn skip_origin(book: &[u8], text: &[u8], at: usize) -> usize
-    requires { (at ≤ length text.now) × (length text.now ≤ 32768) }
-    ensures { Within at (length text.now) result × Skips (OriginText (names_in book.now) text.now) (length text.now) at result }
+pub fn skip_origin(s: &Text<'_>, at: usize) -> usize
+    requires { at ≤ length s.now.bytes.now }
+    ensures { Within at (length s.now.bytes.now) result × Skips (OriginText (names_in s.now.book.now) s.now.bytes.now) (length s.now.bytes.now) at result }
 {
-    let e = at + 6 + 2 * (num16(text, at + 4) as usize);
-    e.min(text.len())
+    let e = at + 6 + 2 * (num16(s.bytes, at + 4) as usize);
+    e.min(s.bytes.len())
 }
 
-pub fn skip_origins(book: &[u8], text: &[u8], at: usize, n: u64) -> usize
-    requires { (at ≤ length text.now) × (length text.now ≤ 32768) }
-    ensures { Within at (length text.now) result × SkipsMany (OriginText (names_in book.now) text.now) (length text.now) at n result }
+pub fn skip_origins(s: &Text<'_>, at: usize, n: u64) -> usize
+    requires { at ≤ length s.now.bytes.now }
+    ensures { Within at (length s.now.bytes.now) result × SkipsMany (OriginText (names_in s.now.book.now) s.now.bytes.now) (length s.now.bytes.now) at n result }
 {
-    skip_many(text.len(), at, n, |p| skip_origin(book, text, p))
+    skip_many(s, at, n, skip_origin)
 }
 
 // Origins and literals, each behind their count.
-pub fn skip_disjunct(book: &[u8], text: &[u8], at: usize) -> usize
-    requires { (at ≤ length text.now) × (length text.now ≤ 32768) }
-    ensures { Within at (length text.now) result × Skips (DisjunctText (names_in book.now) text.now) (length text.now) at result }
+pub fn skip_disjunct(s: &Text<'_>, at: usize) -> usize
+    requires { at ≤ length s.now.bytes.now }
+    ensures { Within at (length s.now.bytes.now) result × Skips (DisjunctText (names_in s.now.book.now) s.now.bytes.now) (length s.now.bytes.now) at result }
 {
-    if text.len() - at < 2 {
-        return text.len();
+    if s.bytes.len() - at < 2 {
+        return s.bytes.len();
     }
-    let middle = skip_origins(book, text, at + 2, num16(text, at));
-    if text.len() - middle < 2 {
-        return text.len();
+    let middle = skip_origins(s, at + 2, num16(s.bytes, at));
+    if s.bytes.len() - middle < 2 {
+        return s.bytes.len();
     }
-    skip_literals(book, text, middle + 2, num16(text, middle))
+    skip_literals(s, middle + 2, num16(s.bytes, middle))
 }
 
-// What the walk over one promises is written out here and at sequents: a search does not read it off the call.
-pub fn skip_disjuncts(book: &[u8], text: &[u8], at: usize, n: u64) -> usize
-    requires { (at ≤ length text.now) × (length text.now ≤ 32768) }
-    ensures { Within at (length text.now) result × SkipsMany (DisjunctText (names_in book.now) text.now) (length text.now) at n result }
+pub fn skip_disjuncts(s: &Text<'_>, at: usize, n: u64) -> usize
+    requires { at ≤ length s.now.bytes.now }
+    ensures { Within at (length s.now.bytes.now) result × SkipsMany (DisjunctText (names_in s.now.book.now) s.now.bytes.now) (length s.now.bytes.now) at n result }
 {
-    skip_many(
-        text.len(),
-        at,
-        n,
-        |p|
-            requires { (p ≤ length text.now) × (length text.now ≤ 32768) }
-            ensures { Within p (length text.entry.now) result
-                × Skips (DisjunctText (names_in book.entry.now) text.entry.now) (length text.entry.now) p result }
-        { skip_disjunct(book, text, p) },
-    )
+    skip_many(s, at, n, skip_disjunct)
 }
 
 // Free variables, body and head.
-pub fn skip_sequent(book: &[u8], text: &[u8], at: usize) -> usize
-    requires { (at ≤ length text.now) × (length text.now ≤ 32768) }
-    ensures { Within at (length text.now) result × Skips (SequentText (names_in book.now) text.now) (length text.now) at result }
+pub fn skip_sequent(s: &Text<'_>, at: usize) -> usize
+    requires { at ≤ length s.now.bytes.now }
+    ensures { Within at (length s.now.bytes.now) result × Skips (SequentText (names_in s.now.book.now) s.now.bytes.now) (length s.now.bytes.now) at result }
 {
-    if text.len() - at < 4 {
-        return text.len();
+    if s.bytes.len() - at < 4 {
+        return s.bytes.len();
     }
-    let middle = skip_literals(book, text, at + 4, num16(text, at + 2));
-    if text.len() - middle < 2 {
-        return text.len();
+    let middle = skip_literals(s, at + 4, num16(s.bytes, at + 2));
+    if s.bytes.len() - middle < 2 {
+        return s.bytes.len();
     }
-    skip_disjuncts(book, text, middle + 2, num16(text, middle))
+    skip_disjuncts(s, middle + 2, num16(s.bytes, middle))
 }
 
-pub fn skip_sequents(book: &[u8], text: &[u8], at: usize, n: u64) -> usize
-    requires { (at ≤ length text.now) × (length text.now ≤ 32768) }
-    ensures { Within at (length text.now) result × SkipsMany (SequentText (names_in book.now) text.now) (length text.now) at n result }
+pub fn skip_sequents(s: &Text<'_>, at: usize, n: u64) -> usize
+    requires { at ≤ length s.now.bytes.now }
+    ensures { Within at (length s.now.bytes.now) result × SkipsMany (SequentText (names_in s.now.book.now) s.now.bytes.now) (length s.now.bytes.now) at n result }
 {
-    skip_many(
-        text.len(),
-        at,
-        n,
-        |p|
-            requires { (p ≤ length text.now) × (length text.now ≤ 32768) }
-            ensures { Within p (length text.entry.now) result
-                × Skips (SequentText (names_in book.entry.now) text.entry.now) (length text.entry.now) p result }
-        { skip_sequent(book, text, p) },
-    )
+    skip_many(s, at, n, skip_sequent)
 }

@@ -3,62 +3,72 @@
 // slots and model numbers for them, once more to be stored. All refusals come before the first byte is written.
 #![tactic(auto)]
 
-ghost use Rattle.std.specs.Prelude.{◌≡◌, ◌+◌, ◌*◌, ◌≤◌, ◌<◌, length};
+ghost use Rattle.std.specs.Prelude.{◌≡◌, ◌+◌, ◌-◌, ◌/◌, ◌≤◌, ◌<◌, length, get_or};
 ghost use Rattle.bound.specs.Bounds.{bound_is};
-ghost use Rattle.enter.specs.Grow.{Sturdy};
-ghost use Rattle.firing.specs.Answers.{Elements};
 ghost use Rattle.refusals.specs.Numbers.{answer};
+ghost use Rattle.rules.specs.Pool.{strategy_of};
 ghost use Rattle.settings.specs.Codes.{strategy_is};
+ghost use Rattle.settings.specs.Numbers.{number_of};
 ghost use Rattle.stepping.specs.Standing.{L, Standing, Stepped};
 ghost use Rattle.stepping.specs.Heads.{HeadAt, NextPlace, RoomFor};
-ghost use Rattle.stepping.specs.Settling.{Settled};
 ghost use Rattle.stepping.specs.Branch.{HasFired, Branched};
 
 use adopting::free_base;
 use bound::Bound;
-use children::all_fit;
+use children::{Branching, Scratch, all_fit};
 use counts::sequent_count;
 use evalforms::evaluate_form;
 use evaluate::Fired;
-use limits::{FORM, LIMITS, SLOT};
+use heads::Pool;
+use limits::{FORM, HEAD, LIMITS, SLOT};
 use lists::finish;
+use nodes::Text;
 use offspring::place_children;
-use poolparts::next_number;
+use poolparts::{counted, next_number};
 use refusals::Refusal;
-use settings::Strategy;
+use settings::{SlotList, Strategy};
 use skips::skip_literals;
 use slots::get_sheet;
 use words::{byte, num16};
 
-// Working memory: the form of the base and that of a child, an environment and the elements that live.
+// Room for the elements that live, which are no more than a sheet has keys.
+const KEYS: usize = LIMITS.keys;
+
+// Chosen elements, four at most, and the witnesses of a disjunct, four at most.
+const ENV: usize = 8;
+
+// Where a pool's head says its strategy.
+const STRATEGY_AT: usize = 6;
+
+// Working memory: the form of the base, and what is written over for each child.
 #[derive(Drop)]
 pub struct Memory {
     base: [u64; FORM],
-    form: [u64; FORM],
-    env: [u64; 8],
-    domain: [u64; LIMITS.keys],
+    scratch: Scratch<FORM, KEYS, ENV>,
 }
 
 impl Memory {
     pub fn new() -> Self {
         Memory {
             base: [0; FORM],
-            form: [0; FORM],
-            env: [0; 8],
-            domain: [0; LIMITS.keys],
+            scratch: Scratch {
+                form: [0; FORM],
+                env: [0; ENV],
+                domain: [0; KEYS],
+            },
         }
     }
 }
 
 // Where the head of the sequent at a place stands: the number of its disjuncts.
 fn head_at(book: &[u8], a: usize) -> usize
-    requires { (a ≤ length book.now) × (length book.now ≤ 32768) }
+    requires { a ≤ length book.now }
     ensures { (result ≤ length book.now) × HeadAt book.now a result }
 {
     if book.len() - a < 4 {
         return a;
     }
-    skip_literals(book, book, a + 4, num16(book, a + 2))
+    skip_literals(&Text { book, bytes: book }, a + 4, num16(book, a + 2))
 }
 
 // The place that the children get when sequent i of n fired: under Linear the first, else the next one, wrapping.
@@ -75,13 +85,38 @@ fn next_place(strategy: Strategy, i: u64, n: u64) -> u64
     }
 }
 
+// The strategy that a pool's head says.
+fn strategy_in(pool: &[u8]) -> Strategy
+    ensures { strategy_is result ≡ strategy_of (get_or pool.now 6 0) }
+{
+    Strategy::of_byte(byte(pool, STRATEGY_AT))
+}
+
+// The first slot that waits, where one does.
+fn first_waiting(pool: &[u8]) -> usize
+    ensures { result ≡ get_or pool.now 16 0 }
+{
+    byte(pool, SlotList::Waiting.starts_at()) as usize
+}
+
+// How many slots a pool has.
+fn slots_of(pool: &[u8]) -> usize
+    requires { 208 ≤ length pool.now }
+    ensures { result ≡ (length pool.now - 208) / 2128 }
+{
+    (pool.len() - HEAD) / SLOT
+}
+
 // Are there slots and model numbers for n children?
 fn room_for(pool: &[u8], n: u64) -> Result<(), Refusal>
     requires { (208 ≤ length pool.now) × (n < 65536) }
     ensures { RoomFor pool.now n (answer result) }
 {
-    let slots = ((pool.len() - 208) / SLOT) as u64;
-    let used = byte(pool, 12) + byte(pool, 13) + byte(pool, 14);
+    let slots = slots_of(pool) as u64;
+    let used = counted(pool, SlotList::Waiting)
+        + counted(pool, SlotList::Complete)
+        + counted(pool, SlotList::Bounded);
+    let used = used as u64;
     if slots + 1 < used + n {
         return Err(Refusal::NoFreeSlots);
     }
@@ -91,41 +126,8 @@ fn room_for(pool: &[u8], n: u64) -> Result<(), Refusal>
     Ok(())
 }
 
-// The base's slot is freed, and the children of n disjuncts from a place on are stored.
-fn settle(
-    book: &[u8],
-    pool: &mut [u8],
-    i: usize,
-    at: usize,
-    n: u64,
-    v: usize,
-    place: u64,
-    bound: Bound,
-    m: &mut Memory,
-)
-    requires { ((at ≤ length book.now) × ((length book.now ≤ 32768) × ((v < 65536) × (Elements m.old.env v × Sturdy L m.old.base)))) × (208 + 2128 * i + 2128 ≤ length pool.old) }
-    ensures { Settled book.now i at n v (bound_is bound) place m.old.env m.old.base pool.old pool.new }
-{
-    let slots = (pool.len() - 208) / SLOT;
-    free_base(pool, i, LIMITS);
-    place_children(
-        book,
-        at,
-        n,
-        v,
-        bound,
-        place,
-        &mut m.env,
-        &m.base,
-        &mut m.form,
-        LIMITS,
-        &mut m.domain,
-        pool,
-        slots,
-    );
-}
-
-// A sequent fired on the base in slot i, at the elements that stand first in the environment.
+// A sequent fired on the base in slot i, at the elements that stand first in the environment. Where it has children, and there is room
+// for them, the base's slot is freed and they are stored.
 fn branch(
     book: &[u8],
     pool: &mut [u8],
@@ -134,8 +136,8 @@ fn branch(
     bound: Bound,
     m: &mut Memory,
 ) -> Result<(), Refusal>
-    requires { HasFired book.now pool.old i fired.number fired.at m.old.base m.old.env }
-    ensures { Branched book.now pool.old i fired.number fired.at (bound_is bound) m.old.base m.old.env (answer result) pool.new }
+    requires { HasFired book.now pool.old i fired.number fired.at m.old.base m.old.scratch.env }
+    ensures { Branched book.now pool.old i fired.number fired.at (bound_is bound) m.old.base m.old.scratch.env (answer result) pool.new }
 {
     let at = head_at(book, fired.at);
     let n = num16(book, at);
@@ -143,23 +145,20 @@ fn branch(
         free_base(pool, i, LIMITS);
         return Ok(());
     }
-    let v = num16(book, fired.at) as usize;
-    all_fit(
+    let chosen = num16(book, fired.at) as usize;
+    let p = Branching {
         book,
-        at + 2,
-        n,
-        v,
+        chosen,
         bound,
-        &mut m.env,
-        &m.base,
-        &mut m.form,
-        LIMITS,
-        &mut m.domain,
-    )?;
+        base: &m.base,
+        limits: LIMITS,
+    };
+    all_fit(&p, at + 2, n, &mut m.scratch)?;
     room_for(pool, n)?;
-    let strategy = Strategy::of_byte(byte(pool, 6));
-    let place = next_place(strategy, fired.number, sequent_count(book));
-    settle(book, pool, i, at + 2, n, v, place, bound, m);
+    let place = next_place(strategy_in(pool), fired.number, sequent_count(book));
+    let slots = slots_of(pool);
+    free_base(pool, i, LIMITS);
+    place_children(&p, at + 2, n, place, &mut m.scratch, pool, slots);
     Ok(())
 }
 
@@ -168,21 +167,21 @@ pub fn step_in(book: &[u8], pool: &mut [u8], bound: Bound, m: &mut Memory) -> Re
     requires { Standing book.now pool.old }
     ensures { Stepped book.now (bound_is bound) pool.old (answer result) pool.new }
 {
-    if byte(pool, 12) == 0 {
+    if counted(pool, SlotList::Waiting) == 0 {
         return Err(Refusal::NothingWaiting);
     }
-    let i = byte(pool, 16) as usize;
+    let i = first_waiting(pool);
     get_sheet(pool, i, &mut m.base, LIMITS);
     match evaluate_form(
         book,
-        Strategy::of_byte(byte(pool, 6)),
+        strategy_in(pool),
         &m.base,
         LIMITS,
-        &mut m.env,
-        &mut m.domain,
+        &mut m.scratch.env,
+        &mut m.scratch.domain,
     ) {
         None => {
-            finish(pool);
+            finish(&mut Pool { bytes: pool });
             Ok(())
         }
         Some(fired) => branch(book, pool, i, fired, bound, m),

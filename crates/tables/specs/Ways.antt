@@ -9,10 +9,10 @@ use Rattle.std.proofs.lemmas.Option.{none-some, same_Some}
 use Rattle.base.specs.Branch.{case_o}
 use Rattle.std.proofs.Math.ListN.{get_or}
 use Rattle.std.proofs.lemmas.List.{set_split}
-use Rattle.std.proofs.Math.Seq.{append_snoc, take-length}
+use Rattle.std.proofs.Math.Seq.{append_snoc}
 use Rattle.images.specs.Kept.{drop_take}
 use Rattle.packing.specs.Replace.{key_of, value_of}
-use Rattle.tables.specs.Table.{rank, look_in, put_in, or_none, option_of, is_some, Here, look_here, look_none, over, insert_at, put_over, put_new}
+use Rattle.tables.specs.Table.{rank, look_in, put_in, option_of, is_some, Here, look_here, look_none, over, insert_at, put_over, put_new}
 
 -- What putting x among the first n entries of t gives: the count afterwards and the list.
 pub record Put (x n : ℕ) (t : List ℕ) (r : ℕ) (t' : List ℕ) : Type 0 where

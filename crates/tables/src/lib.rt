@@ -9,12 +9,14 @@ ghost use Rattle.packing.specs.Replace.{key_of};
 ghost use Rattle.tables.specs.Ways.{Put};
 ghost use Rattle.tables.specs.Last.{NoneAbove};
 
+use packing::{key, value};
+
 // How many entries stand before the first whose key is not below q, by halving.
 pub fn rank(t: &[u64], q: u64) -> usize
     requires { Rising t.now }
     ensures { (result ≡ rank q t.now) × (result ≤ length t.now) }
 {
-    t.partition_point(|x| *x / 256 < q)
+    t.partition_point(|x| key(*x) < q)
 }
 
 // The value of key q, if it has one.
@@ -23,7 +25,7 @@ pub fn look(t: &[u64], q: u64) -> Option<u64>
     ensures { (result ≡ option_of (look_in q t.now)) × IfSome result (λ v. v < 256) }
 {
     let x = *t.get(rank(t, q))?;
-    if x / 256 == q { Some(x % 256) } else { None }
+    if key(x) == q { Some(value(x)) } else { None }
 }
 
 // Is there an entry with key q?
@@ -40,8 +42,9 @@ pub fn put(t: &mut [u64], n: usize, x: u64) -> usize
     requires { (n < length t.old) × Rising (take n t.old) }
     ensures { Put x n t.old result t.new }
 {
-    let at = rank(&t[..n], x / 256);
-    if at < n && t[at] / 256 == x / 256 {
+    let q = key(x);
+    let at = rank(&t[..n], q);
+    if at < n && key(t[at]) == q {
         t[at] = x;
         return n;
     }
@@ -57,7 +60,7 @@ pub fn look_last(t: &[u64], q: u64) -> Option<u64>
     ensures { MatchOption result (look_in q t.now ≡ none) (λ v. (look_in q t.now ≡ some v) × (v < 256)) }
 {
     let x = *t.last()?;
-    if x / 256 == q { Some(x % 256) } else { None }
+    if key(x) == q { Some(value(x)) } else { None }
 }
 
 // The entry x put in where no key is above its own: behind the last, or over it. Nothing moves. The count afterwards.
@@ -66,7 +69,7 @@ pub fn put_last(t: &mut [u64], n: usize, x: u64) -> usize
     requires { (n < length t.old) × (Rising (take n t.old) × NoneAbove (key_of x) (take n t.old)) }
     ensures { Put x n t.old result t.new }
 {
-    if n > 0 && t[n - 1] / 256 == x / 256 {
+    if n > 0 && key(t[n - 1]) == key(x) {
         t[n - 1] = x;
         return n;
     }

@@ -8,19 +8,19 @@ ghost use Rattle.rules.specs.Calls.{TakePromise};
 ghost use Rattle.refusals.specs.Numbers.{answer};
 ghost use Rattle.settings.specs.Codes.{code_of_source};
 ghost use Rattle.texts.specs.Heads.{ReadAs};
-ghost use Rattle.heads.specs.Numbers.{number_of};
+ghost use Rattle.settings.specs.Numbers.{number_of};
 ghost use Rattle.heads.specs.Lists.{Popped};
 ghost use Rattle.takings.specs.Moves.{copied};
 ghost use Rattle.takings.specs.Take.{take_going, Took, Ready};
 ghost use Rattle.takings.specs.Calls.{TookRest};
 
 use book::check_book;
-use heads::{SlotList, clear_slot, pop};
-use limits::LIMITS;
+use heads::{Pool, clear_slot};
+use limits::{LIMITS, SLOT};
 use openings::check_length;
 use poolcheck::pool_sound;
 use refusals::Refusal;
-use settings::Source;
+use settings::{SlotList, Source};
 use words::byte;
 
 // The slot at a place, into the front of the output.
@@ -28,17 +28,17 @@ fn copy_slot(pool: &[u8], a: usize, out: &mut [u8])
     requires { (a + 2128 ≤ length pool.now) × (2128 ≤ length out.old) }
     ensures { out.new ≡ copied pool.now a 2128 out.old }
 {
-    out[..2128].copy_from_slice(&pool[a..a + 2128]);
+    out[..SLOT].copy_from_slice(&pool[a..a + SLOT]);
 }
 
 // The first sheet of a list goes out, from slot i.
 fn give(pool: &mut [u8], list: SlotList, i: usize, out: &mut [u8])
-    requires { (208 ≤ length pool.old) × (((i < 256) × (208 + 2128 * i + 2128 ≤ length pool.old)) × (2128 ≤ length out.old)) }
+    requires { ((i < 256) × (208 + 2128 * i + 2128 ≤ length pool.old)) × (2128 ≤ length out.old) }
     ensures { Popped (number_of list) (patched (208 + 2128 * i) (replicate 2128 0) pool.old) pool.new × (out.new ≡ copied pool.old (208 + 2128 * i) 2128 out.old) }
 {
-    copy_slot(pool, 208 + 2128 * i, out);
+    copy_slot(pool, LIMITS.slot_at(i), out);
     clear_slot(pool, i, LIMITS);
-    pop(pool, list);
+    Pool { bytes: pool }.pop(list);
 }
 
 // Take from a sound pool: 18, then 19.
@@ -50,7 +50,7 @@ fn take_sound(pool: &mut [u8], source: Source, out: &mut [u8]) -> Result<(), Ref
     if byte(pool, list.counted_at()) == 0 {
         return Err(Refusal::ListEmpty);
     }
-    if out.len() < 2128 {
+    if out.len() < SLOT {
         return Err(Refusal::OutputTooShort);
     }
     let i = byte(pool, list.starts_at()) as usize;

@@ -123,12 +123,12 @@ pub record PutFact (lim : Limits) (q : ℕ) (w : List ℕ) (r : Result (Unit {0}
 true_false : true ≡ false → ⊥
 true_false e = subst T e tt
 
-module _ (lim : Limits) (q : ℕ) (w : List ℕ) (s : Sturdy lim w) where
+module _ {lim : Limits} {q : ℕ} {w : List ℕ} (s : Sturdy lim w) where
   -- The facts' room was lent as k entries and came back as ys.
-  pub exit_put : (k n : ℕ) (ys : List ℕ) → k ≡ lim.facts → length ys ≡ k → get_or w 4 0 < lim.facts → Put (q * 256) (get_or w 4 0) (take k (drop (facts_at lim) w)) n ys
+  pub exit_put : {k n : ℕ} {ys : List ℕ} → k ≡ lim.facts → length ys ≡ k → get_or w 4 0 < lim.facts → Put (q * 256) (get_or w 4 0) (take k (drop (facts_at lim) w)) n ys
       → (done : Unit {0}) → PutFact lim q w (Ok done) (after lim k n w ys)
   unfolding view_of
-  exit_put k n ys ek ly free p done =
+  exit_put {k} {n} {ys} ek ly free p done =
       let x = q * 256 in
       let put : take n ys ≡ put_in x (view_of lim w).facts = put_front p ∙ ap (put_in x) (part_front (facts_at lim) k (get_or w 4 0) w (omega arith)) in
       record {
@@ -136,11 +136,11 @@ module _ (lim : Limits) (q : ℕ) (w : List ℕ) (s : Sturdy lim w) where
         stored = inl (after_view lim k n x w ys s ek ly (omega (arith, p.high)) put);
       }
 
-  pub exit_there : (r : Bool) → r ≡ is_some (look_in q (view_of lim w).facts) → r ≡ true → (done : Unit {0}) → PutFact lim q w (Ok done) w
-  exit_there r e t done = record { sturdy = s; stored = inr (refl, sym t ∙ e) }
+  pub exit_there : {r : Bool} → r ≡ is_some (look_in q (view_of lim w).facts) → r ≡ true → (done : Unit {0}) → PutFact lim q w (Ok done) w
+  exit_there e t done = record { sturdy = s; stored = inr (refl, sym t ∙ e) }
 
-  pub exit_full : lim.facts ≤ length (view_of lim w).facts → (r : Bool) → r ≡ is_some (look_in q (view_of lim w).facts) → r ≡ false → (f : TooLarge) → PutFact lim q w (Err f) w
-  exit_full l r e t f = record { sturdy = s; stored = (l, sym t ∙ e) }
+  pub exit_full : lim.facts ≤ length (view_of lim w).facts → {r : Bool} → r ≡ is_some (look_in q (view_of lim w).facts) → r ≡ false → (f : TooLarge) → PutFact lim q w (Err f) w
+  exit_full l e t f = record { sturdy = s; stored = (l, sym t ∙ e) }
 
 -- ---- what that says of the model
 

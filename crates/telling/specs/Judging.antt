@@ -28,20 +28,20 @@ use Rattle.telling.specs.Ways.{literal_grows, fact_terms, same_terms}
 
 -- ---- what the bound says of a literal
 
-module _ (book text : Bytes) (at : ℕ) (b : Bound) (size : ℕ) (lim : Limits) (env w dom : List ℕ) where
+module _ {book text : Bytes} {at : ℕ} (b : Bound) (size : ℕ) {lim : Limits} {env w dom : List ℕ} where
   pub allowed_short : length text - at < 4 → IsAllowed book text at b size lim env w dom false
   allowed_short h z m now t d l e a = absurd (omega (arith, literal_grows book text at (length z.ms) l e a))
 
-  pub allowed_fact : num text at ≡ 0 → (j n : ℕ) → num text (at + 2) ≡ j → n ≡ get_or (names_in book).relations j 0 → (r : Bool)
+  pub allowed_fact : num text at ≡ 0 → {j n : ℕ} → num text (at + 2) ≡ j → n ≡ get_or (names_in book).relations j 0 → {r : Bool}
       → IsAdmitted book text (at + 4) n b size lim env w dom r → IsAllowed book text at b size lim env w dom r
   unfolding LiteralText terms_of
-  allowed_fact k j n is arity r g z m now t d (fact q ts) e a = g z m now t d ts e (fact_terms book text at j n is arity (length z.ms) q ts e a).1
-  allowed_fact k j n is arity r g z m now t d (same u v) e a = absurd (omega (arith, a.stands.0))
+  allowed_fact k {j} {n} is arity g z m now t d (fact q ts) e a = g z m now t d ts e (fact_terms book text at j n is arity (length z.ms) q ts e a).1
+  allowed_fact k {j} {n} is arity g z m now t d (same u v) e a = absurd (omega (arith, a.stands.0))
 
-  pub allowed_same : (num text at ≡ 0 → ⊥) → (r : Bool) → IsAdmitted book text (at + 2) 2 b size lim env w dom r → IsAllowed book text at b size lim env w dom r
+  pub allowed_same : (num text at ≡ 0 → ⊥) → {r : Bool} → IsAdmitted book text (at + 2) 2 b size lim env w dom r → IsAllowed book text at b size lim env w dom r
   unfolding LiteralText terms_of
-  allowed_same k r g z m now t d (fact q ts) e a = absurd (k a.stands.0)
-  allowed_same k r g z m now t d (same u v) e a = g z m now t d (cons u (cons v nil)) e (same_terms book text at (length z.ms) u v e a)
+  allowed_same k g z m now t d (fact q ts) e a = absurd (k a.stands.0)
+  allowed_same k g z m now t d (same u v) e a = g z m now t d (cons u (cons v nil)) e (same_terms book text at (length z.ms) u v e a)
 
 -- ---- judging
 
@@ -59,8 +59,8 @@ module _ (book : Bytes) (lim : Limits) (env w keys facts dom : List ℕ) (tables
   pub facts_here : FactsShown (names_in book) m facts
   facts_here = neat_facts_shown (names_in book) z.small lim m (told_holding t).neat z.few facts (tables.facts_are ∙ t.carries.facts)
 
-module _ (book text : Bytes) (at : ℕ) (b : Bound) (lim : Limits) (env w keys facts dom : List ℕ) (tables : TablesOf lim w keys facts dom) where
-  module _ (r : Bool) (allowed : IsAllowed book text at b (length dom) lim env w dom r) where
+module _ {book text : Bytes} {at : ℕ} (b : Bound) {lim : Limits} {env w keys facts dom : List ℕ} (tables : TablesOf lim w keys facts dom) where
+  module _ {r : Bool} (allowed : IsAllowed book text at b (length dom) lim env w dom r) where
     asked : (z : Setting book lim env) (k : Child) → Held book lim env z w k → (l : Literal) (e : ℕ) → LiteralAt book text at (length z.ms) l e
         → admitted b (length (domain k.model)) (terms_of l) k.model k.now z.ms ≡ r
     asked z k s l e a =
@@ -70,7 +70,7 @@ module _ (book text : Bytes) (at : ℕ) (b : Bound) (lim : Limits) (env w keys f
     pub judged_cut : r ≡ false → IsJudged book text at b lim env w Cut
     judged_cut q z k s l e a = asked z k s l e a ∙ q
 
-    module _ (o : Bool) (g : look.IsObserved book text at env keys facts dom o) where
+    module _ {o : Bool} (g : look.IsObserved book text at env keys facts dom o) where
       seen : (z : Setting book lim env) (k : Child) → Held book lim env z w k → (l : Literal) (e : ℕ) → LiteralAt book text at (length z.ms) l e
           → observed k.model z.ms l ≡ o
       seen z k s l e a =
@@ -119,7 +119,7 @@ module _ (book : Bytes) (lim : Limits) (b : Bound) (env w : List ℕ) (z : Setti
     unfolding tell if
     tell_over e g = rw (p, q) g
 
-module _ (book text : Bytes) (at : ℕ) (b : Bound) (lim : Limits) (env : List ℕ) (cut : Bool) (w : List ℕ) where
+module _ {book text : Bytes} {at : ℕ} (b : Bound) {lim : Limits} {env : List ℕ} {cut : Bool} {w : List ℕ} where
   pub told_cut : IsJudged book text at b lim env w Cut → IsTold book text at b lim env cut w (Ok true) w
   told_cut g z k s c l e a = tell_cut book lim b env w z k s l (g z k s l e a)
 

@@ -124,25 +124,30 @@ module _ (book : Bytes) (lim : Limits) (env : List ℕ) (z : Setting book lim en
 
 -- ---- a fact
 
-module _ (book text : Bytes) (at : ℕ) (lim : Limits) (env w : List ℕ) where
+module _ {C : Type 0} {book text : Bytes} {at m e : ℕ} where
+  not_same : {t u : Term} → num text at ≡ 0 → LiteralAt book text at m (same t u) e → C
+  unfolding LiteralText
+  not_same h a = absurd (omega (arith, a.stands.0))
+
+  not_fact : {r : ℕ} {ts : Terms} → (num text at ≡ 0 → ⊥) → LiteralAt book text at m (fact r ts) e → C
+  unfolding LiteralText
+  not_fact h a = absurd (h a.stands.0)
+
+module _ {book text : Bytes} {at : ℕ} {lim : Limits} {env w : List ℕ} where
   pub literal_short : length text - at < 4 → (r : Result (Unit {0}) TooLarge) (w' : List ℕ) → IsRecorded book text at lim env w r w'
   literal_short h r w' z k s l e a = absurd (omega (arith, literal_grows book text at (length z.ms) l e a))
 
-  module _ (fact_here : num text at ≡ 0) (j n : ℕ) (is : num text (at + 2) ≡ j) (arity : n ≡ get_or (names_in book).relations j 0) where
-    not_same : {C : Type 0} (m : ℕ) (t u : Term) (e : ℕ) → LiteralAt book text at m (same t u) e → C
-    unfolding LiteralText
-    not_same m t u e a = absurd (omega (arith, a.stands.0))
-
+  module _ (fact_here : num text at ≡ 0) {j n : ℕ} (is : num text (at + 2) ≡ j) (arity : n ≡ get_or (names_in book).relations j 0) where
     pub fact_full : (f : TooLarge) (w' : List ℕ) → IsEnters book text (at + 4) n (start 0 j n) top lim env w None w' → IsRecorded book text at lim env w (Err f) w'
     unfolding recorded
-    fact_full f w' g z k s (same t u) e a = not_same (length z.ms) t u e a
+    fact_full f w' g z k s (same t u) e a = not_same fact_here a
     fact_full f w' g z k s (fact r ts) e a =
         let p = fact_terms book text at j n is arity (length z.ms) r ts e a in
         let q = enters ts k.model k.now z.ms in
         let m = with_fact q.0 (rel r q.1) in
         or_r k.over (too_big lim m) (crowded_big lim m (crowded_fact lim q.0 (rel r q.1) (g z k.model k.now s.told ts e p.1)))
 
-    module _ (x b : ℕ) (w₁ : List ℕ) (g : IsEnters book text (at + 4) n (start 0 j n) top lim env w (Some (x, b)) w₁) where
+    module _ {x b : ℕ} {w₁ : List ℕ} (g : IsEnters book text (at + 4) n (start 0 j n) top lim env w (Some (x, b)) w₁) where
       -- What the entered terms give: the form that carries them, and the fact's number.
       module _ (z : Setting book lim env) (k : Child) (s : Held book lim env z w k) (r : ℕ) (ts : Terms) (e : ℕ) (a : LiteralAt book text at (length z.ms) (fact r ts) e) where
         abbrev q : Model × List ℕ
@@ -204,28 +209,24 @@ module _ (book text : Bytes) (at : ℕ) (lim : Limits) (env w : List ℕ) where
             or_r k.over (too_big lim (with_fact q.0 f)) (unfold too_big in or_r (ltb lim.elements q.0.created) _ (or_r (ltb lim.keys (length q.0.keys)) _ (lt→ltb lim.facts _ l)))
 
       pub fact_large : 72057594037927936 ≤ x → (o : Result (Unit {0}) TooLarge) (w' : List ℕ) → IsRecorded book text at lim env w o w'
-      fact_large l o w' z k s (same t u) e a = not_same (length z.ms) t u e a
+      fact_large l o w' z k s (same t u) e a = not_same fact_here a
       fact_large l o w' z k s (fact r ts) e a = absurd (omega (arith, number z k s r ts e a, fits_low (fact_key (f z k s r ts e a)) (fits z k s r ts e a).key))
 
-      pub fact_put : (o : Result (Unit {0}) TooLarge) (w₂ : List ℕ) → PutFact lim x w₁ o w₂ → IsRecorded book text at lim env w o w₂
-      fact_put o w₂ p z k s (same t u) e a = not_same (length z.ms) t u e a
-      fact_put (Ok done) w₂ p z k s (fact r ts) e a = put_done z k s r ts e a done w₂ p
-      fact_put (Err g) w₂ p z k s (fact r ts) e a = put_over z k s r ts e a g w₂ p
+      pub fact_put : {o : Result (Unit {0}) TooLarge} {w₂ : List ℕ} → PutFact lim x w₁ o w₂ → IsRecorded book text at lim env w o w₂
+      fact_put p z k s (same t u) e a = not_same fact_here a
+      fact_put {o = Ok done} {w₂} p z k s (fact r ts) e a = put_done z k s r ts e a done w₂ p
+      fact_put {o = Err g} {w₂} p z k s (fact r ts) e a = put_over z k s r ts e a g w₂ p
 
   -- ---- an identity
 
   module _ (no-fact : num text at ≡ 0 → ⊥) where
-    not_fact : {C : Type 0} (m r : ℕ) (ts : Terms) (e : ℕ) → LiteralAt book text at m (fact r ts) e → C
-    unfolding LiteralText
-    not_fact m r ts e a = absurd (no-fact a.stands.0)
-
     pub same_full : (f : TooLarge) (w' : List ℕ) → IsEnter book text (at + 2) lim env w None w' → IsRecorded book text at lim env w (Err f) w'
-    same_full f w' g z k s (fact r ts) e a = not_fact (length z.ms) r ts e a
+    same_full f w' g z k s (fact r ts) e a = not_fact no-fact a
     same_full f w' g z k s (same t u) e a =
         let p = same_sides book text at (length z.ms) t u e a in
         side_full book lim env z w k s t u f w' (g z k.model k.now s.told t p.0 p.1.0)
 
-    module _ (x b : ℕ) (w₁ : List ℕ) (g : IsEnter book text (at + 2) lim env w (Some (x, b)) w₁) where
+    module _ {x b : ℕ} {w₁ : List ℕ} (g : IsEnter book text (at + 2) lim env w (Some (x, b)) w₁) where
       module _ (z : Setting book lim env) (k : Child) (s : Held book lim env z w k) (t u : Term) (e : ℕ) (a : LiteralAt book text at (length z.ms) (same t u) e) where
         sides : (y : ℕ) × (TermAt book text (at + 2) (length z.ms) t y × TermAt book text y (length z.ms) u e)
         sides = same_sides book text at (length z.ms) t u e a
@@ -237,14 +238,14 @@ module _ (book text : Bytes) (at : ℕ) (lim : Limits) (env w : List ℕ) where
         second_at = subst (λ y. TermAt book text y (length z.ms) u e) (sym (g z k.model k.now s.told t sides.0 sides.1.0).0) sides.1.1
 
       pub same_full_2 : (f : TooLarge) (w' : List ℕ) → IsEnter book text b lim env w₁ None w' → IsRecorded book text at lim env w (Err f) w'
-      same_full_2 f w' h z k s (fact r ts) e a = not_fact (length z.ms) r ts e a
+      same_full_2 f w' h z k s (fact r ts) e a = not_fact no-fact a
       same_full_2 f w' h z k s (same t u) e a =
           side_full_2 book lim env z w k s t u f w' (h z (enter t k.model k.now z.ms).0 k.now (first_told z k s t u e a) u e (second_at z k s t u e a))
 
-      pub same_merged : (y c : ℕ) (w₂ w₃ : List ℕ) → IsEnter book text b lim env w₁ (Some (y, c)) w₂ → MergedForm lim x y w₂ w₃ → (done : Unit {0})
+      pub same_merged : {y c : ℕ} {w₂ w₃ : List ℕ} → IsEnter book text b lim env w₁ (Some (y, c)) w₂ → MergedForm lim x y w₂ w₃ → (done : Unit {0})
           → IsRecorded book text at lim env w (Ok done) w₃
-      same_merged y c w₂ w₃ h r done z k s (fact i ts) e a = not_fact (length z.ms) i ts e a
-      same_merged y c w₂ w₃ h r done z k s (same t u) e a =
+      same_merged h r done z k s (fact i ts) e a = not_fact no-fact a
+      same_merged {y} {c} {w₂} {w₃} h r done z k s (same t u) e a =
           let v = sides z k s t u e a in
           let i = g z k.model k.now s.told t v.0 v.1.0 in
           let o = h z (enter t k.model k.now z.ms).0 k.now (first_told z k s t u e a) u e (second_at z k s t u e a) in

@@ -4,7 +4,6 @@
 #![tactic(auto)]
 
 ghost use Rattle.std.specs.Prelude.{◌≡◌, ◌+◌, ◌≤◌, ◌<◌, length};
-ghost use Rattle.rules.specs.Reading.{num};
 ghost use Rattle.limits.specs.Limits.{limits_of};
 ghost use Rattle.enter.specs.Grow.{Sturdy};
 ghost use Rattle.bound.specs.Bounds.{bound_is};
@@ -13,14 +12,22 @@ ghost use Rattle.telling.specs.Facts.{PutFact};
 ghost use Rattle.telling.specs.Literals.{IsRecorded, IsAllowed, IsJudged, IsTold};
 
 use bound::{Bound, Form, admitted};
-use counts::relation_arity;
 use enter::{enter_list, enter_term};
 use limits::Limits;
-use look::{KEY_END, TOP, begin, observed};
+use look::{KEY_END, Packing, observed};
 use merge::merge;
+use nodes::{Claim, Text, claim_at};
 use refusals::Refusal;
 use showing::tables_of;
-use words::num16;
+
+// What stays while a child is told: the text with its book, the bound, what the variables stand for, and the limits.
+#[derive(Clone, Copy)]
+pub struct Case<'a> {
+    pub text: Text<'a>,
+    pub bound: Bound,
+    pub env: &'a [u64],
+    pub limits: Limits,
+}
 
 // A literal before it is told: skipped, observed already, or new.
 #[derive(Clone, Copy)]
@@ -48,7 +55,7 @@ pub fn put_fact(w: &mut [u64], limits: Limits, q: u64) -> Result<(), TooLarge>
     ensures { PutFact (limits_of limits) q w.old result w.new }
 {
     let n = w[4] as usize;
-    let b = 6 + limits.keys + limits.keys;
+    let b = limits.facts_at();
     if n < limits.facts {
         let more = tables::put(&mut w[b..b + limits.facts], n, q * 256);
         w[4] = more as u64;
@@ -60,106 +67,60 @@ pub fn put_fact(w: &mut [u64], limits: Limits, q: u64) -> Result<(), TooLarge>
     Err(TooLarge)
 }
 
-// The fact at a place.
-fn record_fact(
-    book: &[u8],
-    text: &[u8],
-    at: usize,
-    env: &[u64],
-    w: &mut [u64],
-    limits: Limits,
-) -> Result<(), TooLarge>
-    requires { (at + 4 ≤ length text.now) × ((num text.now at ≡ 0) × Sturdy (limits_of limits) w.old) }
-    ensures sturdy { Sturdy (limits_of limits) w.new }
-    ensures recorded { IsRecorded book.now text.now at (limits_of limits) env.now w.old result w.new }
+// The literal at a place recorded: a fact's terms are entered and then the fact, both sides of an identity are entered and made one.
+pub fn record_literal(case: &Case<'_>, at: usize, w: &mut [u64]) -> Result<(), TooLarge>
+    requires { (at ≤ length case.now.text.bytes.now) × Sturdy (limits_of case.now.limits) w.old }
+    ensures sturdy { Sturdy (limits_of case.now.limits) w.new }
+    ensures recorded { IsRecorded case.now.text.book.now case.now.text.bytes.now at (limits_of case.now.limits) case.now.env.now w.old result w.new }
 {
-    let r = num16(text, at + 2);
-    let n = relation_arity(book, r);
-    let first = begin(0, r, n);
-    let (p, _) = enter_list(book, text, at + 4, n, first, TOP, env, w, limits).ok_or(TooLarge)?;
-    if p >= KEY_END {
-        return Err(TooLarge);
+    let s = &case.text;
+    let _bytes = s.bytes; // a read, by which its length is known to fit a sum
+    match claim_at(s, at) {
+        None => Err(TooLarge),
+        Some(Claim::Fact(r, n)) => {
+            let acc = Packing::begin(0, r, n);
+            let (p, _) = enter_list(s, at + 4, n, acc, case.env, w, case.limits).ok_or(TooLarge)?;
+            if p >= KEY_END {
+                return Err(TooLarge);
+            }
+            put_fact(w, case.limits, p)
+        }
+        Some(Claim::Same) => {
+            let (a, e) = enter_term(s, at + 2, case.env, w, case.limits).ok_or(TooLarge)?;
+            let (b, _) = enter_term(s, e, case.env, w, case.limits).ok_or(TooLarge)?;
+            merge(w, case.limits, a, b);
+            Ok(())
+        }
     }
-    put_fact(w, limits, p)
-}
-
-// The identity at a place: both sides entered, and made one.
-fn record_same(
-    book: &[u8],
-    text: &[u8],
-    at: usize,
-    env: &[u64],
-    w: &mut [u64],
-    limits: Limits,
-) -> Result<(), TooLarge>
-    requires { (at + 4 ≤ length text.now) × ((num text.now at ≡ 0 → ⊥) × Sturdy (limits_of limits) w.old) }
-    ensures sturdy { Sturdy (limits_of limits) w.new }
-    ensures recorded { IsRecorded book.now text.now at (limits_of limits) env.now w.old result w.new }
-{
-    let (a, e) = enter_term(book, text, at + 2, env, w, limits).ok_or(TooLarge)?;
-    let (b, _) = enter_term(book, text, e, env, w, limits).ok_or(TooLarge)?;
-    merge(w, limits, a, b);
-    Ok(())
-}
-
-// The literal at a place recorded.
-pub fn record_literal(
-    book: &[u8],
-    text: &[u8],
-    at: usize,
-    env: &[u64],
-    w: &mut [u64],
-    limits: Limits,
-) -> Result<(), TooLarge>
-    requires { (at ≤ length text.now) × Sturdy (limits_of limits) w.old }
-    ensures sturdy { Sturdy (limits_of limits) w.new }
-    ensures recorded { IsRecorded book.now text.now at (limits_of limits) env.now w.old result w.new }
-{
-    if text.len() - at < 4 {
-        return Err(TooLarge);
-    }
-    if num16(text, at) == 0 {
-        return record_fact(book, text, at, env, w, limits);
-    }
-    record_same(book, text, at, env, w, limits)
 }
 
 // Does the bound admit the unknown terms of the literal at a place?
-fn allowed(book: &[u8], text: &[u8], at: usize, b: Bound, env: &[u64], f: &Form<'_>) -> bool
-    requires { (at ≤ length text.now) × Sturdy (limits_of f.now.limits) f.now.w.now }
-    ensures { IsAllowed book.now text.now at (bound_is b) (length f.now.tables.domain.now) (limits_of f.now.limits) env.now f.now.w.now f.now.tables.domain.now result }
+fn allowed(case: &Case<'_>, at: usize, f: &Form<'_>) -> bool
+    requires { at ≤ length case.now.text.bytes.now }
+    ensures { IsAllowed case.now.text.book.now case.now.text.bytes.now at (bound_is case.now.bound) (length f.now.tables.domain.now) (limits_of f.now.limits) case.now.env.now f.now.w.now f.now.tables.domain.now result }
 {
-    if text.len() - at < 4 {
-        return false;
-    }
+    let s = &case.text;
+    let _bytes = s.bytes; // a read, by which its length is known to fit a sum
     let size = f.tables.domain.len() as u64;
-    if num16(text, at) == 0 {
-        let n = relation_arity(book, num16(text, at + 2));
-        return admitted(book, text, at + 4, n, b, size, env, f);
+    match claim_at(s, at) {
+        None => false,
+        Some(Claim::Fact(_, n)) => admitted(s, at + 4, n, case.bound, size, case.env, f),
+        Some(Claim::Same) => admitted(s, at + 2, 2, case.bound, size, case.env, f),
     }
-    admitted(book, text, at + 2, 2, b, size, env, f)
 }
 
 // The literal at a place before it is told.
-fn judge(
-    book: &[u8],
-    text: &[u8],
-    at: usize,
-    b: Bound,
-    env: &[u64],
-    w: &[u64],
-    limits: Limits,
-    dom: &mut [u64],
-) -> Judged
-    requires { (at ≤ length text.now) × ((limits.keys ≤ length dom.old) × Sturdy (limits_of limits) w.now) }
-    ensures { IsJudged book.now text.now at (bound_is b) (limits_of limits) env.now w.now result }
+fn judge(case: &Case<'_>, at: usize, w: &[u64], dom: &mut [u64]) -> Judged
+    requires { (at ≤ length case.now.text.bytes.now) × ((case.now.limits.keys ≤ length dom.old) × Sturdy (limits_of case.now.limits) w.now) }
+    ensures { IsJudged case.now.text.book.now case.now.text.bytes.now at (bound_is case.now.bound) (limits_of case.now.limits) case.now.env.now w.now result }
 {
+    let limits = case.limits;
     let tables = tables_of(w, limits, dom);
     let f = Form { w, limits, tables };
-    if !allowed(book, text, at, b, env, &f) {
+    if !allowed(case, at, &f) {
         return Judged::Cut;
     }
-    if observed(book, text, at, env, &tables) {
+    if observed(&case.text, at, case.env, &tables) {
         return Judged::Seen;
     }
     Judged::New
@@ -167,25 +128,21 @@ fn judge(
 
 // The literal at a place told to the child, of which one was skipped before or not. The answer: was one skipped by now?
 pub fn tell(
-    book: &[u8],
-    text: &[u8],
+    case: &Case<'_>,
     at: usize,
-    b: Bound,
     cut: bool,
-    env: &[u64],
     w: &mut [u64],
-    limits: Limits,
     dom: &mut [u64],
 ) -> Result<bool, TooLarge>
-    requires { (at ≤ length text.now) × ((limits.keys ≤ length dom.old) × Sturdy (limits_of limits) w.old) }
-    ensures sturdy { Sturdy (limits_of limits) w.new }
-    ensures told { IsTold book.now text.now at (bound_is b) (limits_of limits) env.now cut w.old result w.new }
+    requires { (at ≤ length case.now.text.bytes.now) × ((case.now.limits.keys ≤ length dom.old) × Sturdy (limits_of case.now.limits) w.old) }
+    ensures sturdy { Sturdy (limits_of case.now.limits) w.new }
+    ensures told { IsTold case.now.text.book.now case.now.text.bytes.now at (bound_is case.now.bound) (limits_of case.now.limits) case.now.env.now cut w.old result w.new }
 {
-    match judge(book, text, at, b, env, w, limits, dom) {
+    match judge(case, at, w, dom) {
         Judged::Cut => Ok(true),
         Judged::Seen => Ok(cut),
         Judged::New => {
-            record_literal(book, text, at, env, w, limits)?;
+            record_literal(case, at, w)?;
             Ok(cut)
         }
     }

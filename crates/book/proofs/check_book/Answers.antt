@@ -8,20 +8,20 @@ use Rattle.numbers.specs.Chains.{after_is, after_fault, after_ends, after_refuse
 use Rattle.book.specs.Steps.{front_names}
 use Rattle.book.proofs.check_book.Goals as goal
 
-pub returns-then-book-gt32768 : goal.returns-then-book-gt32768
+pub returns-then-book-gt-LONGEST_BOOK : goal.returns-then-book-gt-LONGEST_BOOK
 unfolding checked giving
-returns-then-book-gt32768 c =
+returns-then-book-gt-LONGEST_BOOK c =
     rw c.refuse.ensures
     (sym (
     ap checked (read_parts c.args.book.now)
-    ∙ on_true _ _ _ (lt-ltb _ _ c.if-book-gt32768.true)))
+    ∙ on_true _ _ _ (lt-ltb _ _ c.if-book-gt-LONGEST_BOOK.true)))
 
 pub returns-in_err-c : goal.returns-in_err-c
 returns-in_err-c c =
     rw (passed_on _ _ c.from_residual.ensures.1)
     (sym (
     ap checked (read_parts c.args.book.now)
-    ∙ on_false _ _ _ (le-ltb _ _ c.if-book-gt32768.false)
+    ∙ on_false _ _ _ (le-ltb _ _ c.if-book-gt-LONGEST_BOOK.false)
     ∙ after_refused _ _ _ _ c.in_err-c.ensures))
 
 pub returns-in_err-k : goal.returns-in_err-k
@@ -30,7 +30,7 @@ returns-in_err-k c =
     rw (passed_on _ _ c.from_residual-in_err-k.ensures.1)
     (sym (
     ap checked (read_parts c.args.book.now)
-    ∙ on_false _ _ _ (le-ltb _ _ c.if-book-gt32768.false)
+    ∙ on_false _ _ _ (le-ltb _ _ c.if-book-gt-LONGEST_BOOK.false)
     ∙ front_names c.args.book.now _ c.in_ok-c.ensures
     ∙ after_fault _ _ _ _ c.in_err-k.ensures.reads))
 
@@ -40,7 +40,7 @@ returns-in_err-e c =
     rw (passed_on _ _ c.from_residual-in_err-e.ensures.1)
     (sym (
     ap checked (read_parts c.args.book.now)
-    ∙ on_false _ _ _ (le-ltb _ _ c.if-book-gt32768.false)
+    ∙ on_false _ _ _ (le-ltb _ _ c.if-book-gt-LONGEST_BOOK.false)
     ∙ front_names c.args.book.now _ c.in_ok-c.ensures
     ∙ after_is _ _ _ _ c.in_ok-k.ensures.reads
     ∙ after_refused _ _ _ _ c.in_err-e.ensures))
@@ -51,7 +51,7 @@ returns-then-e-book c =
     rw c.refuse-then-e-book.ensures
     (sym (
     ap checked (read_parts c.args.book.now)
-    ∙ on_false _ _ _ (le-ltb _ _ c.if-book-gt32768.false)
+    ∙ on_false _ _ _ (le-ltb _ _ c.if-book-gt-LONGEST_BOOK.false)
     ∙ front_names c.args.book.now _ c.in_ok-c.ensures
     ∙ after_is _ _ _ _ c.in_ok-k.ensures.reads
     ∙ after_ends _ _ _ c.in_ok-e.ensures
@@ -62,7 +62,7 @@ unfolding sequents_from ended checked giving
 returns c =
     sym (
     ap checked (read_parts c.args.book.now)
-    ∙ on_false _ _ _ (le-ltb _ _ c.if-book-gt32768.false)
+    ∙ on_false _ _ _ (le-ltb _ _ c.if-book-gt-LONGEST_BOOK.false)
     ∙ front_names c.args.book.now _ c.in_ok-c.ensures
     ∙ after_is _ _ _ _ c.in_ok-k.ensures.reads
     ∙ after_ends _ _ _ c.in_ok-e.ensures

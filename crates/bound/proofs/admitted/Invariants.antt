@@ -7,7 +7,7 @@ use Rattle.bound.proofs.admitted.Given as goal
 
 abbrev pub invariant-loop : goal.invariant-loop
 invariant-loop l = record {
-  within : l.p ≤ length l.text;
+  within : l.p ≤ length l.s.bytes.now;
   counted : l.n ≤ l.size + l.counter;
-  left : AdmittedLeft l.book l.text l.at l.count (bound_is l.b) l.size (limits_of l.f.limits) l.env l.f.w.now l.f.tables.domain.now l.counter l.p l.n;
+  left : AdmittedLeft l.s.book.now l.s.bytes.now l.at l.count (bound_is l.b) l.size (limits_of l.f.limits) l.env l.f.w.now l.f.tables.domain.now l.counter l.p l.n;
 }

@@ -1,4 +1,4 @@
-use mathlib.Core.Path.{◌≡◌}
+use Prim.Native.Nat.{◌≤◌}
 use Rattle.limits.specs.Limits.{limits_of}
 use lib.ListN.{length}
 use Rattle.bound.specs.Bounds.{bound_is}
@@ -8,7 +8,7 @@ use Rattle.child.proofs.tell_owns.Given as goal
 
 abbrev pub invariant-loop-i : goal.invariant-loop-i
 invariant-loop-i l = record {
-  dom_length : length l.dom ≡ length l.initial.dom;
-  sturdy : Sturdy (limits_of l.limits) l.w;
-  left : Left l.book l.text l.at l.n (bound_is l.b) (limits_of l.limits) l.env l.v l.count l.before l.initial.w l.i l.cut l.w;
+  room : l.case.limits.keys ≤ length l.dom;
+  sturdy : Sturdy (limits_of l.case.limits) l.w;
+  left : Left l.case.text.book.now l.case.text.bytes.now l.at l.n (bound_is l.case.bound) (limits_of l.case.limits) l.case.env.now l.v l.count l.before l.initial.w l.i l.cut l.w;
 }

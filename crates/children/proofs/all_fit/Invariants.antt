@@ -7,11 +7,8 @@ use Rattle.children.specs.Ways.{OverLeft}
 use Rattle.children.proofs.all_fit.Given as goal
 
 abbrev pub invariant-loop : goal.invariant-loop
-invariant-loop l = record {
-  within : l.p ≤ length l.book;
-  env_length : length l.env ≡ length l.initial.env;
-  w_length : length l.w ≡ length l.initial.w;
-  dom_length : length l.dom ≡ length l.initial.dom;
-  chosen : take l.v l.env ≡ take l.v l.initial.env;
-  left : OverLeft l.book l.at l.n l.v (bound_is l.b) (limits_of l.limits) l.initial.env l.base l.counter l.p;
+invariant-loop g l = record {
+  within : l.q ≤ length l.p.book.now;
+  chosen : take l.p.chosen l.m.env ≡ take l.p.chosen l.initial.m.env;
+  left : OverLeft l.p.book.now l.at l.n l.p.chosen (bound_is l.p.bound) (limits_of l.p.limits) l.initial.m.env l.p.base.now l.counter l.q;
 }

@@ -13,9 +13,9 @@ loop-x-preserved c =
     let i = c.loop-x.invariant in
     elim c.if-not-known.branch [
       | then-not-known w ↦
-          let l = listed_new c.args.keys.now c.loop-x.x-index c.loop-x.dom c.loop-x.nd (omega arith) i.listed (omega arith) (sym w.if-not-known.true ∙ c.known.ensures) in
-          record { below = omega arith; as_long = omega arith; listed = rw (w.dom-is, w.nd-is) l }
+          let l = listed_new c.args.keys.now c.loop-x.x-index c.loop-x.dom c.loop-x.nd (omega arith) i.listed (omega arith) (rw c.value-e.ensures.0 at (sym w.if-not-known.true ∙ c.known.ensures)) in
+          record { below = omega arith; as_long = omega arith; listed = rw (w.dom-is, w.nd-is, c.value-e.ensures.0) l }
       | else-not-known w ↦
-          let l = listed_old c.args.keys.now c.loop-x.x-index c.loop-x.dom c.loop-x.nd (omega arith) i.listed (sym w.if-not-known.false ∙ c.known.ensures) in
+          let l = listed_old c.args.keys.now c.loop-x.x-index c.loop-x.dom c.loop-x.nd (omega arith) i.listed (rw c.value-e.ensures.0 at (sym w.if-not-known.false ∙ c.known.ensures)) in
           record { below = omega arith; as_long = omega arith; listed = rw (w.dom-is, w.nd-is) l }
     ]

@@ -1,12 +1,6 @@
-use borrow.Author.Tests.{lt-ltb, le-ltb}
-use Rattle.base.specs.Branch.{if}
-use Rattle.enter.specs.Args.{one_more}
+use native.Mathlib.Omega.{arith}
+use Rattle.enter.specs.Args.{one_more_is}
 use Rattle.enter.proofs.one_more.Goals as goal
 
-pub returns-then-d-lt65536 : goal.returns-then-d-lt65536
-unfolding one_more if
-returns-then-d-lt65536 c = search (lt-ltb, le-ltb)
-
-pub returns-else-d-lt65536 : goal.returns-else-d-lt65536
-unfolding one_more if
-returns-else-d-lt65536 c = search (lt-ltb, le-ltb)
+pub returns : goal.returns
+returns c = omega (arith, one_more_is c.args.d, c.min.ensures, c.saturating_add.ensures)

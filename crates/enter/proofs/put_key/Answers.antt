@@ -51,5 +51,5 @@ unfolding after
 returns c =
     let o = c.look-old.ensures.0 ∙ ap (λ (t : List ℕ). option_of (look_in c.args.q t)) (keys_shown (limits_of c.args.limits) c.args.w.now _ refl) in
     let k = 5 + c.args.limits.keys - 5 in
-    exit_new (limits_of c.args.limits) c.args.q c.args.d c.args.w.now c.requires.0 (look_missing c.args.q _ c.look-old.result o (sym c.if-is_some.ensures)) (omega arith) k _ _ (omega arith)
-    (c.put-more.auto.t ∙ mid_len 5 (5 + c.args.limits.keys) c.args.w.now (omega arith)) (omega arith) c.put-more.ensures
+    rw c.depths_at.ensures (exit_new (limits_of c.args.limits) c.args.q c.args.d c.args.w.now c.requires.0 (look_missing c.args.q _ c.look-old.result o (sym c.if-is_some.ensures)) (omega arith) k _ _ (omega arith)
+    (c.put-more.auto.t ∙ mid_len 5 (5 + c.args.limits.keys) c.args.w.now (omega arith)) (omega arith) c.put-more.ensures)

@@ -16,7 +16,7 @@ tables_of-t-requires c =
 pub evaluate-requires : goal.evaluate-requires
 evaluate-requires c =
     let b = c.requires.0 in
-    record { fits = (b.short, (subst (λ k. k ≤ num c.args.book.now (count_at c.args.book.now)) (sym (place_is (limits_of c.args.limits) c.args.base.now b.sheet b.holds)) b.low, c.requires.1.0)); octets = listed_octets _ _ c.tables_of-t.ensures.domain_is }
+    record { fits = (subst (λ k. k ≤ num c.args.book.now (count_at c.args.book.now)) (sym (place_is (limits_of c.args.limits) c.args.base.now b.sheet b.holds)) b.low, c.requires.1.0); octets = listed_octets _ _ c.tables_of-t.ensures.domain_is }
 
 pub returns : goal.returns
 returns c =

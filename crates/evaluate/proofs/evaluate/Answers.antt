@@ -16,10 +16,10 @@ returns-in-None c =
     let f = rw c.sequent_count-n.ensures.0 at c.in-None.ensures in
     let k = rw c.sequents_start-start.ensures.0 at c.skip_sequents-middle.ensures.1 in
     let g = rw c.sequents_start-start.ensures.0 at c.first_of-in-None.ensures in
-    rw c.in-Fair.is (evaluates_earlier c.args.book.now c.args.place c.args.t.now.keys.now c.args.t.now.facts.now c.args.t.now.domain.now c.first_of-in-None.new.env c.requires.fits.1.0 c.skip_sequents-middle.result k c.first_of-in-None.result c.first_of-in-Fair.new.env f g)
+    rw c.in-Fair.is (evaluates_earlier c.args.book.now c.args.place c.args.t.now.keys.now c.args.t.now.facts.now c.args.t.now.domain.now c.first_of-in-None.new.env c.requires.fits.0 c.skip_sequents-middle.result k c.first_of-in-None.result c.first_of-in-Fair.new.env f g)
 
 pub returns-in_default : goal.returns-in_default
 returns-in_default c =
     let f = rw c.sequent_count-n.ensures.0 at c.first_of-in-Fair.ensures in
     let k = rw c.sequents_start-start.ensures.0 at c.skip_sequents-middle.ensures.1 in
-    rw c.in-Fair.is (evaluates_later c.args.book.now c.args.place c.args.t.now.keys.now c.args.t.now.facts.now c.args.t.now.domain.now c.first_of-in-Fair.new.env c.requires.fits.1.0 c.skip_sequents-middle.result k c.first_of-in-Fair.result c.in_default.not-None f)
+    rw c.in-Fair.is (evaluates_later c.args.book.now c.args.place c.args.t.now.keys.now c.args.t.now.facts.now c.args.t.now.domain.now c.first_of-in-Fair.new.env c.requires.fits.0 c.skip_sequents-middle.result k c.first_of-in-Fair.result c.in_default.not-None f)

@@ -11,7 +11,7 @@ loop-j-init c = record { within = omega arith; env_length = refl; left = sequent
 
 pub first_choice-requires : goal.first_choice-requires
 first_choice-requires c =
-    record { fits = (omega (arith, c.sequent_at-q.ensures.within, c.requires.fits.1.0), omega (arith, c.loop-j.invariant.env_length, c.requires.fits.1.1.1)); octets = c.requires.octets }
+    record { fits = omega (arith, c.loop-j.invariant.env_length, c.requires.fits.1.1); octets = c.requires.octets }
 
 pub returns-then-first_choice : goal.returns-then-first_choice
 returns-then-first_choice c = sequents_found c.args.book.now c.args.at c.args.i c.args.n c.args.t.now.keys.now c.args.t.now.facts.now c.args.t.now.domain.now c.loop-j.j c.loop-j.p c.loop-j.invariant.left _ (omega arith) c.sequent_at-q.ensures.skips c.first_choice.new.env (subst (λ x. FirstChoice c.args.book.now x c.args.t.now.keys.now c.args.t.now.facts.now c.args.t.now.domain.now true c.first_choice.new.env) c.sequent_at-q.ensures.is c.if-first_choice.ensures)

@@ -6,4 +6,4 @@ use Rattle.packing.specs.Replace.{replaced}
 use Rattle.filing.proofs.rename_all.Goals as goal
 
 pub loop-x-preserved : goal.loop-x-preserved
-loop-x-preserved c = grind (arith, common_steps, map_over_more (replaced c.args.s c.args.l))
+loop-x-preserved c = grind (arith, common_steps, map_over_more (replaced c.args.r.stays c.args.r.goes))

@@ -11,12 +11,12 @@ use Rattle.firing.proofs.first_from.Goals as goal
 
 pub loop-idx-init : goal.loop-idx-init
 loop-idx-init c =
-    let z = zeros_four c.args.v c.requires.fits.1.1.1.1.0 in
+    let z = zeros_four c.args.v c.requires.fits.1.1.1.0 in
     record {
       env_length = refl;
-      width = length-take-le c.args.v _ c.requires.fits.1.1.1.1.0;
-      below = subst (Below (length c.args.t.now.domain.now)) (sym z) (zeros_below c.args.v (length c.args.t.now.domain.now) c.requires.fits.1.1.1.1.1);
-      searching = subst (Searching c.args.book.now c.args.text.now c.args.at c.args.v c.args.t.now.keys.now c.args.t.now.facts.now c.args.t.now.domain.now) (sym z) (search_start c.args.book.now c.args.text.now c.args.at c.args.v c.args.t.now.keys.now c.args.t.now.facts.now c.args.t.now.domain.now);
+      width = length-take-le c.args.v _ c.requires.fits.1.1.1.0;
+      below = subst (Below (length c.args.t.now.domain.now)) (sym z) (zeros_below c.args.v (length c.args.t.now.domain.now) c.requires.fits.1.1.1.1);
+      searching = subst (Searching c.args.s.now.book.now c.args.s.now.bytes.now c.args.at c.args.v c.args.t.now.keys.now c.args.t.now.facts.now c.args.t.now.domain.now) (sym z) (search_start c.args.s.now.book.now c.args.s.now.bytes.now c.args.at c.args.v c.args.t.now.keys.now c.args.t.now.facts.now c.args.t.now.domain.now);
     }
 
 pub fires-requires : goal.fires-requires
@@ -26,18 +26,18 @@ fires-requires c =
     let f = c.requires.fits in
     let w : length c.choose.new.env ≡ length c.args.env.now = c.choose.auto.env ∙ i.env_length in
     let o = subst (All (λ e. e < 256)) (sym e) (chosen_small c.args.t.now.domain.now c.loop-idx.idx (length c.args.t.now.domain.now) refl c.requires.octets i.below) in
-    (f.0, (f.1.0, (f.1.1.0, (omega arith, (omega arith, o)))))
+    (f.0, (f.1.0, (omega arith, (omega arith, o))))
 
 pub returns-then-fires : goal.returns-then-fires
 returns-then-fires c =
     let i = c.loop-idx.invariant in
-    search_found c.args.book.now c.args.text.now c.args.at c.args.v c.args.t.now.keys.now c.args.t.now.facts.now c.args.t.now.domain.now c.loop-idx.idx c.choose.new.env
+    search_found c.args.s.now.book.now c.args.s.now.bytes.now c.args.at c.args.v c.args.t.now.keys.now c.args.t.now.facts.now c.args.t.now.domain.now c.loop-idx.idx c.choose.new.env
     i.width i.below (rw i.width at c.choose.ensures) i.searching c.if-fires.ensures.fires c.fires.new.env c.if-fires.ensures.env_unchanged
 
 pub returns-then-not-advance : goal.returns-then-not-advance
 returns-then-not-advance c =
     let i = c.loop-idx.invariant in
-    search_none c.args.book.now c.args.text.now c.args.at c.args.v c.args.t.now.keys.now c.args.t.now.facts.now c.args.t.now.domain.now c.loop-idx.idx c.choose.new.env
+    search_none c.args.s.now.book.now c.args.s.now.bytes.now c.args.at c.args.v c.args.t.now.keys.now c.args.t.now.facts.now c.args.t.now.domain.now c.loop-idx.idx c.choose.new.env
     i.width i.below (rw i.width at c.choose.ensures) i.searching c.if-fires.ensures.fires c.if-not-advance.ensures.0 c.fires.new.env
 
 pub loop-idx-smaller : goal.loop-idx-smaller
@@ -50,6 +50,6 @@ loop-idx-preserved c =
       env_length = c.fires.auto.env ∙ c.choose.auto.env ∙ i.env_length;
       width = c.advance.auto.idx ∙ i.width;
       below = c.if-not-advance.ensures.1;
-      searching = search_next c.args.book.now c.args.text.now c.args.at c.args.v c.args.t.now.keys.now c.args.t.now.facts.now c.args.t.now.domain.now c.loop-idx.idx c.choose.new.env
+      searching = search_next c.args.s.now.book.now c.args.s.now.bytes.now c.args.at c.args.v c.args.t.now.keys.now c.args.t.now.facts.now c.args.t.now.domain.now c.loop-idx.idx c.choose.new.env
           i.width i.below (rw i.width at c.choose.ensures) i.searching c.if-fires.ensures.fires c.advance.new.idx c.if-not-advance.ensures.0;
     }

@@ -9,7 +9,7 @@ invariant-loop-idx l = record {
   env_length : length l.env ≡ length l.initial.env;
   width : length l.idx ≡ l.v;
   below : Below (length l.t.domain.now) l.idx;
-  searching : Searching l.book l.text l.at l.v l.t.keys.now l.t.facts.now l.t.domain.now l.idx;
+  searching : Searching l.s.book.now l.s.bytes.now l.at l.v l.t.keys.now l.t.facts.now l.t.domain.now l.idx;
 }
 
 abbrev pub decreases-loop-idx : goal.decreases-loop-idx

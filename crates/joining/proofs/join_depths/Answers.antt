@@ -12,4 +12,4 @@ unfolding merge_depths
 returns c =
     let low = c.min-low.ensures ∙ ap₂ min c.depth.ensures c.depth-2.ensures in
     c.set-2.ensures
-    ∙ ap (λ (t : List ℕ). set t c.args.l 0) (c.set.ensures ∙ ap (set c.args.t.now c.args.s) low)
+    ∙ ap (λ (t : List ℕ). set t c.args.r.goes 0) (c.set.ensures ∙ ap (set c.args.t.now c.args.r.stays) low)

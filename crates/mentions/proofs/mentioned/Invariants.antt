@@ -5,4 +5,4 @@ use Rattle.mentions.specs.Rows.{Left}
 use Rattle.mentions.proofs.mentioned.Given as goal
 
 abbrev pub invariant-loop : goal.invariant-loop
-invariant-loop l = (l.p ≤ length l.text) × Left (names_in l.book) l.text l.v l.at l.n l.counter l.p
+invariant-loop l = (l.p ≤ length l.s.bytes.now) × Left (names_in l.s.book.now) l.s.bytes.now l.v l.at l.n l.counter l.p

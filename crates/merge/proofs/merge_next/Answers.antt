@@ -1,4 +1,4 @@
--- The three ways out: one already, the first is the smaller, the second is.
+-- The two ways out: one already, or the smaller stays.
 use Rattle.merge.specs.Next.{next_same, next_into}
 use Rattle.limits.specs.Limits.{limits_of}
 use native.Mathlib.Omega.{arith}
@@ -11,17 +11,8 @@ returns-then-x-y c =
 pub merge_into-requires : goal.merge_into-requires
 merge_into-requires c =
     let g = c.requires.0 in
-    (g.formed, (g.orderly, (omega (arith, g.room), (omega arith, (omega arith, omega arith)))))
-
-pub returns-then-x-y-2 : goal.returns-then-x-y-2
-returns-then-x-y-2 c =
-    next_into (limits_of c.args.limits) c.args.top c.args.w.now c.requires.0 c.requires.1 _ _ _ _ c.if-x-y.false (omega arith) (omega arith) c.merge_into.ensures
-
-pub merge_into-requires-2 : goal.merge_into-requires-2
-merge_into-requires-2 c =
-    let g = c.requires.0 in
-    (g.formed, (g.orderly, (omega (arith, g.room), (omega arith, (omega arith, omega arith)))))
+    (g.formed, (g.orderly, (omega (arith, g.room), (omega arith, omega arith))))
 
 pub returns : goal.returns
 returns c =
-    next_into (limits_of c.args.limits) c.args.top c.args.w.now c.requires.0 c.requires.1 _ _ _ _ c.if-x-y.false (omega arith) (omega arith) c.merge_into-2.ensures
+    next_into (limits_of c.args.limits) c.args.top c.args.w.now c.requires.0 c.requires.1 _ _ _ _ c.if-x-y.false (omega arith) (omega arith) c.merge_into.ensures

@@ -7,6 +7,8 @@ use Rattle.offspring.specs.All.{PlacedLeft}
 use Rattle.offspring.proofs.place_children.Given as goal
 
 abbrev pub invariant-loop : goal.invariant-loop
-invariant-loop l =
-    (l.p ≤ length l.book) × ((take l.v l.env ≡ take l.v l.initial.env)
-    × PlacedLeft l.book l.at l.n l.v (bound_is l.bound) (limits_of l.limits) l.place l.initial.env l.base l.slots l.initial.pool l.counter l.p l.pool)
+invariant-loop g l = record {
+  within : l.q ≤ length l.p.book.now;
+  chosen : take l.p.chosen l.m.env ≡ take l.p.chosen l.initial.m.env;
+  left : PlacedLeft l.p.book.now l.at l.n l.p.chosen (bound_is l.p.bound) (limits_of l.p.limits) l.place l.initial.m.env l.p.base.now l.slots l.initial.pool l.counter l.q l.pool;
+}

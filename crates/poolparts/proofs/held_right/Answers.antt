@@ -12,11 +12,11 @@ use Rattle.poolparts.proofs.held_right.Goals as goal
 
 pub sheet_sound-requires : goal.sheet_sound-requires
 unfolding limits
-sheet_sound-requires c = (fair_limits, lent_length _ _ c.requires.1)
+sheet_sound-requires c = rw c.slot_at-a.ensures (fair_limits, lent_length _ _ c.requires.1)
 
 pub returns-then-differs : goal.returns-then-differs
 unfolding held_right limits
 returns-then-differs c =
     let s : c.sheet_sound.result ≡ sheet_sound limits (names_in c.args.book.now) c.args.places (part (start_of c.args.i) 2128 c.args.p.now) =
-    c.sheet_sound.ensures ∙ ap (sheet_sound limits (names_in c.args.book.now) c.args.places) (lent_part _ c.args.p.now) in
+    rw c.slot_at-a.ensures at c.sheet_sound.ensures ∙ ap (sheet_sound limits (names_in c.args.book.now) c.args.places) (lent_part _ c.args.p.now) in
     grind (arith, common_steps)

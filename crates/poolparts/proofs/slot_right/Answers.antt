@@ -10,7 +10,7 @@ use Rattle.poolparts.proofs.slot_right.Goals as goal
 
 pub returns-in-0 : goal.returns-in-0
 unfolding slot_right
-returns-in-0 c = let e = c.listed.ensures in c.zeros.ensures ∙ sym (on _ _ _ (eq-eqb _ 0 (omega arith)))
+returns-in-0 c = let e = c.listed.ensures in rw c.slot_at.ensures at c.zeros.ensures ∙ sym (on _ _ _ (eq-eqb _ 0 (omega arith)))
 
 pub returns-in-1 : goal.returns-in-1
 unfolding slot_right

@@ -1,15 +1,15 @@
 -- A law for each way out.
-use Rattle.std.proofs.Common.{◌≤◌, ◌++◌, ◌∙◌, ap, arith, rules, tests}
+use Rattle.std.proofs.Common.{◌++◌, ◌∙◌, ap, arith}
 use Rattle.rules.specs.Reading.{Bytes}
 use Rattle.printing.specs.Stops.{ran_refused, ran_listed}
 use Rattle.printing.proofs.ran_text.Goals as goal
 
-pub returns-then-contains : goal.returns-then-contains
-returns-then-contains g c =
-    let low : 1 ≤ c.args.stop = search (rules, tests) in
-    let high : c.args.stop ≤ 13 = search (rules, tests) in
-    c.refusal.ensures.text ∙ ap (λ (l : Bytes). c.args.page.now ++ l) (ran_refused c.args.stop c.args.steps c.args.pool.now (λ z. absurd (omega arith)) (omega arith))
+pub returns-then-refuses_call : goal.returns-then-refuses_call
+returns-then-refuses_call g c =
+    let b = rw c.if-refuses_call.true at c.refuses_call.ensures in
+    c.refusal.ensures.text ∙ ap (λ (l : Bytes). c.args.page.now ++ l) (ran_refused c.args.stop c.args.steps c.args.pool.now (λ z. absurd (omega (arith, b.0))) (omega (arith, b.1)))
 
-pub returns-else-contains : goal.returns-else-contains
-returns-else-contains g c =
-    c.listing.ensures ∙ ap (λ (l : Bytes). c.args.page.now ++ l) (ran_listed c.args.stop c.args.steps c.args.pool.now (λ h. search (rules, tests)))
+pub returns-else-refuses_call : goal.returns-else-refuses_call
+returns-else-refuses_call g c =
+    let b = rw c.if-refuses_call.false at c.refuses_call.ensures in
+    c.listing.ensures ∙ ap (λ (l : Bytes). c.args.page.now ++ l) (ran_listed c.args.stop c.args.steps c.args.pool.now b)

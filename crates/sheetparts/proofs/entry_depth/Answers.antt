@@ -1,27 +1,21 @@
--- The arguments from j on give the depth.
-use mathlib.Core.Path.{◌≡◌}
-use native.Mathlib.Omega.{arith}
+-- The greatest over the arguments.
+use Rattle.std.proofs.Common.{rules, refl, ◌∙◌, ap, ◌+◌, map, arith}
+use Prim.Native.Nat.{max}
+use Rattle.std.proofs.lemmas.Iterator.{YieldsList-from_range, YieldsList-from_map}
+use Rattle.std.proofs.lemmas.Iterator.Consumers.{YieldsList-at, fold_from_yields_List}
+use Rattle.rules.specs.Bound.{depth_over}
+use Rattle.sheetparts.specs.Loops.{up_to}
 use Rattle.sheetparts.specs.Tests.{arg_depth, entry_depth}
-use Rattle.sheetparts.specs.Ways.{deep_taken, deep_left, none_deep}
+use Rattle.sheetparts.specs.Ways.{greatest, few}
 use Rattle.sheetparts.proofs.entry_depth.Goals as goal
 
-pub loop-j-init : goal.loop-j-init
-loop-j-init c = (omega arith, none_deep _ _ _ (omega arith))
-
-pub loop-j-preserved-then-most-deep : goal.loop-j-preserved-then-most-deep
-unfolding arg_depth
-loop-j-preserved-then-most-deep c =
-    let q = rw c.byte-e.ensures.0 at c.byte-deep.ensures.0 in
-    (omega arith, deep_taken _ _ _ _ _ c.loop-j-test.true c.loop-j.auto.j q c.loop-j.invariant.1 c.if-most-deep.true)
-
-pub loop-j-preserved : goal.loop-j-preserved
-unfolding arg_depth
-loop-j-preserved c =
-    let q = rw c.byte-e.ensures.0 at c.byte-deep.ensures.0 in
-    (omega arith, deep_left _ _ _ _ _ c.loop-j-test.true c.loop-j.auto.j q c.loop-j.invariant.1 c.if-most-deep.false)
-
 pub returns : goal.returns
-unfolding entry_depth
+unfolding arg_depth entry_depth
 returns c =
-    let z : c.loop-j.j ≡ 0 = omega arith in
-    (rw (z, c.byte-n.ensures.0) at c.loop-j.invariant.1, c.loop-j.invariant.0)
+    let f = arg_depth c.args.s.now c.args.d c.args.at in
+    let n = c.byte.result in
+    let all = fold_from_yields_List _ max 0 c.fold.result c.fold.ensures.ran
+    (YieldsList-from_map _ (λ j. f j + 1) (YieldsList-at c.map.ensures.source (YieldsList-from_range 0 n n refl (omega arith))) c.map.ensures.closure (λ x r q k. search rules))
+    (λ a x b q k. search rules)
+    ∙ greatest f n in
+    (all ∙ ap (λ m. depth_over (map f (up_to 0 m))) c.byte.ensures.0, rw all (few f (λ j. (c.type_inv.s _).fits) 0 n))

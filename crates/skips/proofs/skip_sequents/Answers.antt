@@ -1,5 +1,4 @@
 -- A step walks over one of them, so the chain walks over all.
-use borrow.Author.Rules.{rules}
 use Rattle.texts.specs.Names.{names_in}
 use Rattle.texts.specs.Text.{SequentText}
 use Rattle.skips.specs.Rest.{chain_skips}
@@ -8,4 +7,4 @@ use Rattle.skips.proofs.skip_sequents.Goals as goal
 
 pub returns : goal.returns
 returns c =
-    (c.skip_many.ensures.within, chain_skips (SequentText (names_in c.args.book.now) c.args.text.now) (sequent_on (names_in c.args.book.now) c.args.text.now) _ _ _ _ (λ p q l h. search rules) _ c.skip_many.ensures.chained)
+    (c.skip_many.ensures.within, chain_skips (SequentText (names_in c.args.s.now.book.now) c.args.s.now.bytes.now) (sequent_on (names_in c.args.s.now.book.now) c.args.s.now.bytes.now) _ _ _ _ (λ p q l h. rw h.1.0 at h.1.1) _ c.skip_many.ensures.chained)

@@ -1,9 +1,5 @@
-use native.Mathlib.Omega.{arith}
 use Rattle.stepping.specs.Heads.{place_linear, place_wraps, place_next}
 use Rattle.stepping.proofs.next_place.Goals as goal
-
-pub returns-then-i-n : goal.returns-then-i-n
-returns-then-i-n c = λ h. absurd (omega arith)
 
 pub returns-in-Linear : goal.returns-in-Linear
 returns-in-Linear c = rw c.in-Linear.is (place_linear c.args.i c.args.n)

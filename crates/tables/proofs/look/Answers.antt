@@ -15,13 +15,13 @@ returns-in_err-x c =
     let r : c.from_residual.result ≡ None = grind (arith, common_steps) in
     rw r (whole_past c.args.t.now c.args.q c.rank.result c.rank.ensures.0 l, tt)
 
-pub returns-then-x-q : goal.returns-then-x-q
-returns-then-x-q c =
+pub returns-then-key-q : goal.returns-then-key-q
+returns-then-key-q c =
     let e : c.in_ok-x.field-0.now ≡ get_or c.args.t.now c.rank.result 0 = grind (arith, common_steps, gets) in
     let l : c.rank.result < length c.args.t.now = grind (arith, common_steps, gets) in
-    (rw e (whole_found c.args.t.now c.args.q c.rank.result c.rank.ensures.0 l (omega arith)), omega arith)
+    (rw (c.value.ensures.0, e) (whole_found c.args.t.now c.args.q c.rank.result c.rank.ensures.0 l (omega arith)), omega arith)
 
-pub returns-else-x-q : goal.returns-else-x-q
-returns-else-x-q c =
+pub returns-else-key-q : goal.returns-else-key-q
+returns-else-key-q c =
     let e : c.in_ok-x.field-0.now ≡ get_or c.args.t.now c.rank.result 0 = grind (arith, common_steps, gets) in
-    (whole_other c.args.t.now c.args.q c.rank.result c.rank.ensures.0 (λ h. c.if-x-q.false (omega arith)), tt)
+    (whole_other c.args.t.now c.args.q c.rank.result c.rank.ensures.0 (λ h. c.if-key-q.false (omega arith)), tt)

@@ -1,15 +1,14 @@
-use mathlib.Core.Path.{sym, ◌∙◌}
-use Rattle.limits.specs.Limits.{limits_of}
-use Rattle.bound.specs.Bounds.{bound_is}
+use mathlib.Core.Path.{sym}
 use Rattle.telling.specs.Judging.{allowed_short, allowed_fact, allowed_same}
 use Rattle.telling.proofs.allowed.Goals as goal
 
-pub returns-then-text-at-lt4 : goal.returns-then-text-at-lt4
-returns-then-text-at-lt4 c = allowed_short c.args.book.now c.args.text.now c.args.at (bound_is c.args.b) _ (limits_of c.args.f.now.limits) c.args.env.now c.args.f.now.w.now c.args.f.now.tables.domain.now c.if-text-at-lt4.true
+pub returns-in-None : goal.returns-in-None
+returns-in-None c = allowed_short _ _ c.in-None.ensures
 
-pub returns-then-num16-eq0 : goal.returns-then-num16-eq0
-returns-then-num16-eq0 c =
-    allowed_fact c.args.book.now c.args.text.now c.args.at (bound_is c.args.b) _ (limits_of c.args.f.now.limits) c.args.env.now c.args.f.now.w.now c.args.f.now.tables.domain.now (sym c.num16.ensures.0 ∙ c.if-num16-eq0.true) _ _ (sym c.num16-then-num16-eq0.ensures.0) c.relation_arity-n.ensures.0 _ c.admitted.ensures
+pub returns-in-Some-Fact : goal.returns-in-Some-Fact
+returns-in-Some-Fact c =
+    let h = rw c.in-Some-Fact.field-0-is at c.in-Some-Fact.ensures in
+    allowed_fact _ _ h.0 (sym h.1.0.1.0) h.1.1.0 c.admitted.ensures
 
-pub returns : goal.returns
-returns c = allowed_same c.args.book.now c.args.text.now c.args.at (bound_is c.args.b) _ (limits_of c.args.f.now.limits) c.args.env.now c.args.f.now.w.now c.args.f.now.tables.domain.now (λ z. c.if-num16-eq0.false (c.num16.ensures.0 ∙ z)) _ c.admitted-2.ensures
+pub returns-in-Some-Same : goal.returns-in-Some-Same
+returns-in-Some-Same c = allowed_same _ _ (rw c.in-Some-Same.field-0-is at c.in-Some-Same.ensures).1 c.admitted-in-Some-Same.ensures

@@ -1,4 +1,5 @@
 -- The parts of the line, one behind the other.
+use Rattle.std.proofs.Common.{arith}
 use Rattle.lines.specs.Text.{key_word, equals_word, newline}
 use Rattle.lines.specs.Lines.{key_parts}
 use Rattle.lines.proofs.Page.key_line.Goals as goal
@@ -7,4 +8,4 @@ pub returns-clause-text : goal.returns-clause-text
 unfolding key_word equals_word newline
 returns-clause-text g c =
     rw (c.word-3.ensures, c.row-3.ensures.text, c.word-2.ensures, c.row-2.ensures.text, c.row.ensures.text, c.word.ensures, c.arguments.ensures.value)
-    (key_parts c.args.entry.now c.requires.0 c.args.self.now)
+    (key_parts c.args.entry.now (omega arith) c.args.self.now)

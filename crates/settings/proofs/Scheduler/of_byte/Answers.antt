@@ -1,11 +1,9 @@
-use Rattle.std.proofs.Common.{arith}
+use mathlib.Core.Path.{refl}
 use Rattle.rules.specs.Pool.{scheduler_of}
-use Rattle.settings.specs.Codes.{lifo_else}
+use Rattle.settings.specs.declared.Scheduler.TheVariants.{Fifo, Lifo}
+use Rattle.settings.specs.Codes.{scheduler_is, first_else}
 use Rattle.settings.proofs.Scheduler.of_byte.Goals as goal
 
-pub returns-in-0 : goal.returns-in-0
+pub returns : goal.returns
 unfolding scheduler_of
-returns-in-0 c = rw c.in-0.is
-
-pub returns-in_default : goal.returns-in_default
-returns-in_default c = lifo_else _ (λ z. omega arith)
+returns c = first_else scheduler_is scheduler_of Fifo Lifo refl (λ n. refl) _ _ c.first_or_second.ensures

@@ -1,11 +1,9 @@
-use Rattle.std.proofs.Common.{arith}
+use mathlib.Core.Path.{refl}
 use Rattle.rules.specs.Pool.{strategy_of}
-use Rattle.settings.specs.Codes.{fair_else}
+use Rattle.settings.specs.declared.Strategy.TheVariants.{Linear, Fair}
+use Rattle.settings.specs.Codes.{strategy_is, first_else}
 use Rattle.settings.proofs.Strategy.of_byte.Goals as goal
 
-pub returns-in-0 : goal.returns-in-0
+pub returns : goal.returns
 unfolding strategy_of
-returns-in-0 c = rw c.in-0.is
-
-pub returns-in_default : goal.returns-in_default
-returns-in_default c = fair_else _ (λ z. omega arith)
+returns c = first_else strategy_is strategy_of Linear Fair refl (λ n. refl) _ _ c.first_or_second.ensures

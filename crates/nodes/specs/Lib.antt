@@ -1,0 +1,2 @@
+-- What nodes' code is held to.
+pub mod Heads

@@ -1,8 +1,0 @@
-use Rattle.std.proofs.Common.{◌≡◌, map, take}
-use Rattle.base.specs.Lists.{flat}
-use Rattle.octets.specs.Patch.{patched}
-use Rattle.octets.specs.Words.{octets}
-use Rattle.octets.proofs.store_words.Given as goal
-
-abbrev pub invariant-loop-i : goal.invariant-loop-i
-invariant-loop-i l = l.s ≡ patched l.at (flat (map octets (take l.i l.t))) l.initial.s
