@@ -2,7 +2,7 @@
 // first, and print a line or more for each; where a record stops a program, the last line says why, and after how many records.
 #![tactic(auto)]
 
-ghost use Rattle.std.specs.Prelude.{◌<◌};
+ghost use Rattle.std.specs.Prelude.{◌<◌, IfSome};
 
 use numbers::Fault;
 
@@ -84,6 +84,7 @@ fn last_line(stop: Stop, kind: &[u8], done: u64) {
 // Takes records until one stops the program: why, and after how many.
 pub fn until_stopped<F: FnMut() -> Result<(), Stop>>(mut next: F) -> Option<(Stop, u64)>
     requires { F.IsAlwaysCallable next }
+    ensures { IfSome result (λ r. r.1 < 1000000) }
 {
     for done in 0..MOST {
         if let Err(stop) = next() {
