@@ -1,7 +1,7 @@
--- One law for each way through counting on, and what has been chosen as far as a loop has come.
+-- One law for each way through counting on, and for listing the chosen elements.
 use Rattle.std.specs.Prelude.{◌≡◌, ℕ, suc, ◌+◌, ◌≤◌, ◌<◌, length, get_or, take, set}
 use Rattle.std.proofs.Math.Path.{refl, ap}
-use Rattle.std.proofs.Common.{sym, ap₂, ◌∙◌, arith, drop_of_length-le, drop-cons, take-suc-set, drop-set-lt, lt-ltb, le-ltb}
+use Rattle.std.proofs.Common.{sym, ap₂, ◌∙◌, arith, drop_of_length-le, drop-cons, take-suc, take-suc-set, drop-set-lt, get_or-take, lt-ltb, le-ltb}
 use Rattle.std.proofs.Math.Numerals.{add-one}
 use Rattle.std.proofs.Math.Option.{Option, none, some}
 use mathlib.Core.List.{List, [], ◌∷◌, ◌++◌}
@@ -9,6 +9,7 @@ use Rattle.std.proofs.Math.ListN.{drop}
 use Rattle.std.proofs.lemmas.List.{set_split}
 use Rattle.std.proofs.Math.Seq.{append_snoc}
 use Rattle.base.specs.Branch.{if, case_o}
+use Rattle.base.specs.ListLaws.{map_append}
 use Rattle.choosing.specs.Choosing.{chosen, after}
 
 -- The first i indices have started again: those after the first are behind them, if there are any.
@@ -53,3 +54,10 @@ module _ (n : ℕ) (is₀ : List ℕ) (i : ℕ) (is : List ℕ) (c : Carries n i
 
 abbrev pub Chooses : List ℕ → List ℕ → ℕ → List ℕ → Type 0
 Chooses d is i env = take i env ≡ chosen d (take i is)
+
+pub chooses_next : (dom : List ℕ) (nd : ℕ) (is : List ℕ) (i : ℕ) (env : List ℕ) → i < length is → i < length env → get_or is i 0 < nd → Chooses (take nd dom) is i env
+    → Chooses (take nd dom) is (i + 1) (set env i (get_or dom (get_or is i 0) 0))
+chooses_next dom nd is i env h l b c =
+    rw add-one (take-suc-set env i (get_or dom (get_or is i 0) 0) l)
+    ∙ ap₂ (λ (a : List ℕ) (x : ℕ). a ++ (x ∷ [])) c (sym (get_or-take nd dom (get_or is i 0) 0 b))
+    ∙ sym (ap (chosen (take nd dom)) (rw add-one (take-suc is i 0 h)) ∙ map_append (λ (j : ℕ). get_or (take nd dom) j 0) (take i is) (get_or is i 0 ∷ []))

@@ -15,6 +15,7 @@ use Rattle.rules.specs.Book.{Sequent, Book, completed, rules}
 use Rattle.rules.specs.Reading.{Bytes, num, got, read_book}
 use Rattle.rules.specs.Sheet.{Model, domain}
 use Rattle.rules.specs.Fire.{choices, fires, numbered, Firing, firing, Strategy, linear, fair, visits}
+use Rattle.rules.specs.Pool.{strategy_of}
 use Rattle.texts.specs.Reads.{Follow}
 use Rattle.texts.specs.Names.{names_in, count_at, sequents_at}
 use Rattle.texts.specs.Heads.{accepted}
@@ -233,6 +234,18 @@ module _ (book : Bytes) (keys facts dom : List ℕ) (m : Model) (b : Book) (e : 
         let z : firing m (visits fair place (rules b)) ≡ firing m (numbered 0 (map completed (take place b.sequents))) =
         parts ∙ ap (λ (o : Option Firing). case_o o (λ _. firing m (numbered 0 (map completed (take place b.sequents)))) some) x in
         subst (λ o. Answers book o env r) (sym z) (g m (take place b.sequents) y.0 y.1)
+
+-- ---- the strategies by their numbers
+
+pub is_linear : (s : ℕ) → s ≡ 0 → strategy_of s ≡ linear
+unfolding strategy_of
+is_linear zero e = refl
+is_linear (suc s) e = absurd (omega arith)
+
+pub is_fair : (s : ℕ) → (s ≡ 0 → ⊥) → strategy_of s ≡ fair
+unfolding strategy_of
+is_fair zero e = absurd (e refl)
+is_fair (suc s) e = refl
 
 -- ---- one law for each way out of the evaluator
 

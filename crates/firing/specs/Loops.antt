@@ -146,6 +146,9 @@ module _ (book text : Bytes) (at : ℕ) (env : List ℕ) (v : ℕ) (keys facts d
   pub disjunct_short : (r : Bool) → length text - at < 2 → IsDisjunct book text at env v keys facts dom r
   disjunct_short r h m d e s = let g = disjunct_grows (names_in book) text at d e s.stands in let f = s.fits in absurd (omega arith)
 
+  pub disjunct_wide : (k : ℕ) (r : Bool) → k ≡ num text at → length env - v < k → IsDisjunct book text at env v keys facts dom r
+  disjunct_wide k r q h m d e s = let f = s.few in let z = s.stands.count in let w = elements.0 in absurd (omega arith)
+
   module _ (k : ℕ) (q : k ≡ num text at) (env' : List ℕ) (b : ℕ) (made : MadeEnv book text (at + 2) k env v env' b) where
     made_of : (m : Model) (d : Disjunct) (e : ℕ) (s : DisjunctAt book text at (length env) v keys facts dom m d e)
         → (take (v + k) env' ≡ take v env ++ map (pack_origin (take v env)) d.origins) × (b ≡ s.stands.middle)
