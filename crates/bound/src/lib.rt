@@ -4,6 +4,7 @@
 
 ghost use Rattle.std.specs.Prelude.{◌≡◌, ◌+◌, ◌≤◌, ◌<◌, length};
 ghost use Rattle.rules.specs.Bound.{admits};
+ghost use Rattle.rules.specs.Calls.{bound_of};
 ghost use Rattle.limits.specs.Limits.{limits_of};
 ghost use Rattle.sheets.specs.Form.{view_of};
 ghost use Rattle.enter.specs.Grow.{Sturdy, sturdy_prop};
@@ -37,6 +38,20 @@ pub enum Bound {
 }
 
 impl Bound {
+    // The bound that a kind and a number stand for, whatever they are: 0 for unbounded, 1 for a domain's size, 2 for a depth pure, and
+    // any other for a depth reuse.
+    #[tactic(auto, using(crate::specs::Bounds::reuse_of), unfolding(rules::specs::Calls::bound_of))]
+    pub fn of_numbers(kind: u64, number: u64) -> Bound
+        ensures { bound_is result ≡ bound_of kind number }
+    {
+        match kind {
+            0 => Bound::Unbounded,
+            1 => Bound::DomainSize(number),
+            2 => Bound::DepthPure(number),
+            _ => Bound::DepthReuse(number),
+        }
+    }
+
     // Does the bound admit a term by the size of the domain and its depth?
     pub fn admits(self, size: u64, depth: u64) -> bool
         ensures { result ≡ admits (bound_is self) size depth }
@@ -58,9 +73,7 @@ impl TryFrom<(u32, u32)> for Bound {
     fn try_from(setting: (u32, u32)) -> Result<Self, Refusal> {
         match setting {
             (0, 0) => Ok(Bound::Unbounded),
-            (1, n) => Ok(Bound::DomainSize(n as u64)),
-            (2, n) => Ok(Bound::DepthPure(n as u64)),
-            (3, n) => Ok(Bound::DepthReuse(n as u64)),
+            (kind @ 1..=3, n) => Ok(Bound::of_numbers(kind as u64, n as u64)),
             _ => Err(Refusal::UnknownSetting),
         }
     }
