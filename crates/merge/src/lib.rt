@@ -22,6 +22,8 @@ fn keys_room(limits: Limits) -> usize
 }
 
 // One element takes another's place. The places between keys and pairs are spare for either table. Where the pairs begin afterwards.
+// It stays a function of the archive, where tests/calls/merging counts the instructions of a pair apart from those of lowering.
+#[inline(never)]
 pub fn merge_into(w: &mut [u64], limits: Limits, top: usize, r: Replacement) -> usize
     requires { Formed (limits_of limits) w.old × (Orderly (limits_of limits) w.old × ((get_or w.old 3 0 + limits.keys ≤ top) × ((top ≤ keys_room (limits_of limits)) × (r.stays < r.goes)))) }
     ensures { IntoForm (limits_of limits) r.stays r.goes top w.old result w.new }
