@@ -9,8 +9,7 @@
  * The book is only read.
  *
  * Stack: 2 KB are enough for chase_open, 3 KB for chase_take, 24 KB for chase_step and chase_run (the most that
- * tests/calls/stack measured: 1,000, 1,512, 17,632 and 17,648 bytes). A program that binds functions of a shared C
- * library at their first call needs some 2 KB more at the first call that copies; linked with -z now it does not.
+ * tests/calls/stack measured: 1,000, 1,512, 17,616 and 17,632 bytes).
  *
  * Refusals, lower numbers checked first:
  *    1  book over CHASE_BOOK_MOST bytes

@@ -42,6 +42,17 @@ pub struct Scratch<const N: usize, const K: usize, const E: usize> {
     pub ghost whole: { length env ≡ E },
 }
 
+// One form over another of the same length. It is copied here, entry by entry: `copy_from_slice` becomes a call of memmove, and the calls are
+// to need no function of the C library but memset.
+fn copy_form(base: &[u64], form: &mut [u64])
+    requires { length form.old ≡ length base.now }
+    ensures { form.new ≡ base.now }
+{
+    for (i, x) in form.iter_mut().enumerate() {
+        *x = base[i];
+    }
+}
+
 // The child of the disjunct at a place. The answer: was one of its literals skipped?
 pub fn derive<const N: usize, const K: usize, const E: usize>(
     p: &Branching<'_, N, K>,
@@ -55,7 +66,7 @@ pub fn derive<const N: usize, const K: usize, const E: usize>(
 {
     let (book, base) = (p.book, p.base);
     let text = Text { book, bytes: book };
-    m.form.copy_from_slice(base);
+    copy_form(base, &mut m.form);
     if book.len() - at < 2 {
         return Err(TooLarge);
     }

@@ -23,12 +23,15 @@ use refusals::Refusal;
 use settings::{SlotList, Source};
 use words::byte;
 
-// The slot at a place, into the front of the output.
+// The slot at a place, into the front of the output. It is copied here, byte by byte: `copy_from_slice` becomes a call of memmove, and a
+// loader that binds that at its first call takes more stack than the 3 KB that are enough for take.
 fn copy_slot(pool: &[u8], a: usize, out: &mut [u8])
     requires { (a + 2128 ≤ length pool.now) × (2128 ≤ length out.old) }
     ensures { out.new ≡ copied pool.now a 2128 out.old }
 {
-    out[..SLOT].copy_from_slice(&pool[a..a + SLOT]);
+    for (j, to) in out[..SLOT].iter_mut().enumerate() {
+        *to = pool[a + j];
+    }
 }
 
 // The first sheet of a list goes out, from slot i.
