@@ -1,9 +1,9 @@
 -- What a packed key gives its value, and depths lowered by it, by a pass over the keys, and by passes until none lowers.
-use Rattle.std.specs.Prelude.{◌≡◌, ℕ, zero, suc, ◌+◌, ◌≤◌, ◌<◌, min, max, List, [], ◌∷◌, map, get_or, set, eqb, ltb}
+use Rattle.std.specs.Prelude.{◌≡◌, refl, ℕ, zero, suc, ◌+◌, ◌≤◌, ◌<◌, min, max, List, [], ◌∷◌, map, get_or, take, set, eqb, ltb}
 use Rattle.std.specs.List.{range_with_len, fold}
 use Rattle.std.proofs.Math.Path.{sym, ap}
 use native.Mathlib.Omega.{arith}
-use Rattle.std.proofs.Common.{lt→ltb, eqb→eq}
+use Rattle.std.proofs.Common.{◌∙◌, take_all, lt→ltb, eqb→eq}
 use Rattle.std.proofs.Math.Dec.{ltb→lt, not_T}
 use Rattle.base.specs.Branch.{if}
 use Rattle.base.specs.BranchLaws.{if_true, if_false, eq→eqb}
@@ -39,6 +39,16 @@ lower_in (suc n) ks ds = let r = lower_by_in ks ds in if (eqb (sum r) (sum ds)) 
 
 -- ---- the ways out of reading depths
 
+-- The first n of four places.
+of_four : (n : ℕ) → take n (range_with_len 0 4) ≡ range_with_len 0 (min n 4)
+of_four zero = refl
+of_four (suc zero) = refl
+of_four (suc (suc zero)) = refl
+of_four (suc (suc (suc zero))) = refl
+of_four (suc (suc (suc (suc n)))) =
+    let m : 4 ≡ min (suc (suc (suc (suc n)))) 4 = omega arith in
+    take_all (suc (suc (suc (suc n)))) (range_with_len 0 4) (omega arith) ∙ ap (range_with_len 0) m
+
 module _ (ds : List ℕ) (x : ℕ) where
   pub arg_there : (i : ℕ) → i < count_of x → arg_depth ds x i ≡ get_or ds (arg_of x i) 0
   unfolding arg_depth
@@ -57,6 +67,10 @@ module _ (ds : List ℕ) (x : ℕ) where
   greatest_is (suc (suc (suc zero))) e = omega (arith, arg_there 0 (omega arith), arg_there 1 (omega arith), arg_there 2 (omega arith), arg_none 3 (omega arith))
   greatest_is (suc (suc (suc (suc zero)))) e = omega (arith, arg_there 0 (omega arith), arg_there 1 (omega arith), arg_there 2 (omega arith), arg_there 3 (omega arith))
   greatest_is (suc (suc (suc (suc (suc n))))) e = absurd (omega arith)
+
+  -- The same over as many of the four places.
+  pub greatest_of : (n : ℕ) → n ≡ count_of x → fold max 0 (map (λ i. get_or ds (arg_of x i) 0) (take n (range_with_len 0 4))) ≡ deepest ds x
+  greatest_of n e = ap (λ (is : List ℕ). fold max 0 (map (λ i. get_or ds (arg_of x i) 0) is)) (of_four n) ∙ greatest_is (min n 4) (omega arith)
 
   pub over_none : count_of x ≡ 0 → over_in ds x ≡ 0
   unfolding over_in

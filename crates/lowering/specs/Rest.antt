@@ -8,6 +8,7 @@ use Rattle.std.proofs.Math.Bool.{true, false}
 use mathlib.Core.List.{List, [], ◌∷◌}
 use lib.ListN.{length, get_or, drop, set}
 use lib.Seq.{set-get_or, drop-cons}
+use Rattle.std.proofs.lemmas.List.{get_or_past}
 use Rattle.base.specs.BranchLaws.{if_elim, if_true, if_false, eq→eqb, neqb→ne}
 use Rattle.rules.specs.Merge.{sum}
 use Rattle.packing.specs.Replace.{value_of}
@@ -47,6 +48,10 @@ module _ (x : ℕ) (ds : List ℕ) where
   lowered_not h =
       let e : lowest ds x ≡ get_or ds (value_of x) 0 = omega arith in
       record { depths = sym (ap (set ds (value_of x)) e ∙ set-get_or ds (value_of x) 0); fell = refl }
+
+  -- The value has no depth.
+  pub lowered_none : length ds ≤ value_of x → LoweredAt x ds false ds
+  lowered_none h = let z = get_or_past ds (value_of x) 0 h in lowered_not (omega arith)
 
   pub lowered_less : lowest ds x < get_or ds (value_of x) 0 → LoweredAt x ds true (set ds (value_of x) (lowest ds x))
   unfolding lower_at

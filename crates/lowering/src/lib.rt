@@ -13,18 +13,19 @@ pub fn depth(depths: &[u64], e: u64) -> u64
     depths.get(e as usize).map_or(0, |d| *d)
 }
 
-// The greatest depth of the entry's arguments.
+// The greatest depth of the entry's arguments. Of four places as many are gone through as there are arguments: four is known before, so no
+// loop is left where this is built.
 fn deepest(depths: &[u64], x: u64) -> u64
     ensures { result ≡ deepest depths.now x }
 {
-    (0..packing::count(x).min(4))
+    (0..4)
+        .take(packing::count(x) as usize)
         .map(|i| depth(depths, packing::argument(x, i)))
         .fold(0, u64::max)
 }
 
-// The depth of the entry's value, no more than what the entry gives it: one more than the greatest depth, or the most that a number can
-// be, so that it cannot wrap.
-#[tactic(auto, using(crate::specs::Lower::lowest_none, crate::specs::Lower::lowest_some))]
+// The depth of the entry's value, no more than what the entry gives it. One more than a depth below another cannot wrap.
+#[tactic(auto, using(crate::specs::Lower::lowest_none, crate::specs::Lower::lowest_less, crate::specs::Lower::lowest_same))]
 fn lowest(depths: &[u64], x: u64) -> u64
     ensures { result ≡ lowest depths.now x }
 {
@@ -32,18 +33,22 @@ fn lowest(depths: &[u64], x: u64) -> u64
         return 0;
     }
     let old = depth(depths, packing::value(x));
-    deepest(depths, x).saturating_add(1).min(old)
+    let over = deepest(depths, x);
+    if over < old { over + 1 } else { old }
 }
 
-// The value's depth lowered by one key. Has it fallen?
-#[tactic(auto, using(crate::specs::Rest::lowered_not, crate::specs::Rest::lowered_less))]
+// The value's depth lowered by one key. Has it fallen? Whether the value has a depth is asked once, before all else.
+#[tactic(auto, using(crate::specs::Rest::lowered_none, crate::specs::Rest::lowered_not, crate::specs::Rest::lowered_less))]
 fn lower_at(depths: &mut [u64], x: u64) -> bool
     ensures { LoweredAt x depths.old result depths.new }
 {
-    let v = packing::value(x);
+    let v = packing::value(x) as usize;
+    if v >= depths.len() {
+        return false;
+    }
     let low = lowest(depths, x);
-    if low < depth(depths, v) {
-        depths[v as usize] = low;
+    if low < depths[v] {
+        depths[v] = low;
         return true;
     }
     false
