@@ -1,3 +1,4 @@
 -- The children of a sequent that fired.
 pub mod Derived
 pub mod Ways
+pub mod Lent

@@ -44,7 +44,9 @@ pub fn step(book: &[u8], pool: &mut [u8], bound: u32, number: u32) -> Result<(),
     ensures { StepPromise book.now pool.old bound number (answer result) pool.new }
 {
     let known = check_call(book, pool, bound, number)?;
-    step_in(book, pool, known, &mut Memory::new())
+    let mut memory = Memory::new();
+    let (base, mut m) = memory.lend();
+    step_in(book, pool, known, base, &mut m)
 }
 
 // The stop of a run, and the number of steps made.
@@ -55,13 +57,15 @@ pub struct Ran {
     pub steps: u32,
 }
 
-// Steps on a pool that is sound for the book, in lent working memory, until the budget is spent or a step refuses.
-fn run_in(book: &[u8], pool: &mut [u8], bound: Bound, budget: u32, m: &mut Memory) -> Ran
+// Steps on a pool that is sound for the book, all in one working memory, until the budget is spent or a step refuses.
+fn run_in(book: &[u8], pool: &mut [u8], bound: Bound, budget: u32) -> Ran
     requires { Standing book.now pool.old }
     ensures { RanFrom book.now (bound_is bound) budget pool.old result.stop result.steps pool.new }
 {
+    let mut memory = Memory::new();
+    let (base, mut m) = memory.lend();
     for k in 0..budget {
-        if let Err(refusal) = step_in(book, pool, bound, m) {
+        if let Err(refusal) = step_in(book, pool, bound, base, &mut m) {
             return Ran {
                 stop: u32::from(refusal),
                 steps: k,
@@ -78,7 +82,7 @@ pub fn run(book: &[u8], pool: &mut [u8], bound: u32, number: u32, budget: u32) -
     ensures { RunPromise book.now pool.old bound number budget result.stop result.steps pool.new }
 {
     match check_call(book, pool, bound, number) {
-        Ok(known) => run_in(book, pool, known, budget, &mut Memory::new()),
+        Ok(known) => run_in(book, pool, known, budget),
         Err(refusal) => Ran {
             stop: u32::from(refusal),
             steps: 0,

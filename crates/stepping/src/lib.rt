@@ -3,15 +3,18 @@
 // slots and model numbers for them, once more to be stored. All refusals come before the first byte is written.
 #![tactic(auto)]
 
-ghost use Rattle.std.specs.Prelude.{◌≡◌, ◌+◌, ◌-◌, ◌/◌, ◌≤◌, ◌<◌, length, get_or};
+ghost use Rattle.std.specs.Prelude.{◌≡◌, ◌+◌, ◌-◌, ◌*◌, ◌/◌, ◌≤◌, ◌<◌, length, get_or};
 ghost use Rattle.bound.specs.Bounds.{bound_is};
 ghost use Rattle.refusals.specs.Numbers.{answer};
+ghost use Rattle.limits.specs.Limits.{form_size};
 ghost use Rattle.rules.specs.Pool.{strategy_of};
 ghost use Rattle.settings.specs.Codes.{strategy_is};
 ghost use Rattle.settings.specs.Numbers.{number_of};
 ghost use Rattle.stepping.specs.Standing.{L, Standing, Stepped};
 ghost use Rattle.stepping.specs.Heads.{HeadAt, NextPlace, RoomFor};
 ghost use Rattle.stepping.specs.Branch.{HasFired, Branched};
+ghost use Rattle.children.specs.Lent.{HasRoom, SameLent};
+ghost use Rattle.evalforms.specs.Basis.{Basis, Evaluated};
 
 use adopting::free_base;
 use bound::Bound;
@@ -40,23 +43,37 @@ const ENV: usize = 8;
 // Where a pool's head says its strategy.
 const STRATEGY_AT: usize = 6;
 
-// Working memory: the form of the base, and what is written over for each child.
+// Working memory for whoever has none to lend: the form of the base, and what is written over for each child.
 #[derive(Drop)]
 pub struct Memory {
     base: [u64; FORM],
-    scratch: Scratch<FORM, KEYS, ENV>,
+    form: [u64; FORM],
+    env: [u64; ENV],
+    domain: [u64; KEYS],
 }
 
 impl Memory {
     pub fn new() -> Self {
         Memory {
             base: [0; FORM],
-            scratch: Scratch {
-                form: [0; FORM],
-                env: [0; ENV],
-                domain: [0; KEYS],
-            },
+            form: [0; FORM],
+            env: [0; ENV],
+            domain: [0; KEYS],
         }
+    }
+
+    // Both, lent to a step or to several.
+    pub fn lend(&mut self) -> (&mut [u64], Scratch<'_>)
+        ensures base { length result.0.now ≡ form_size L }
+        ensures scratch { (8 ≤ length result.1.env.now) × HasRoom KEYS result.0.now result.1 }
+    {
+        let Memory {
+            base,
+            form,
+            env,
+            domain,
+        } = self;
+        (base, Scratch { form, env, domain })
     }
 }
 
@@ -126,19 +143,21 @@ fn room_for(pool: &[u8], n: u64) -> Result<(), Refusal>
     Ok(())
 }
 
-// A sequent fired on the base in slot i, at the elements that stand first in the environment. Where it has children, and there is room
-// for them, the base's slot is freed and they are stored.
+// A sequent fired on the base, the first sheet that waits, at the elements that stand first in the environment. Where it has children, and
+// there is room for them, the base's slot is freed and they are stored.
 fn branch(
     book: &[u8],
     pool: &mut [u8],
-    i: usize,
     fired: Fired,
     bound: Bound,
-    m: &mut Memory,
+    base: &[u64],
+    m: &mut Scratch<'_>,
 ) -> Result<(), Refusal>
-    requires { HasFired book.now pool.old i fired.number fired.at m.old.base m.old.scratch.env }
-    ensures { Branched book.now pool.old i fired.number fired.at (bound_is bound) m.old.base m.old.scratch.env (answer result) pool.new }
+    requires { HasFired book.now pool.old (get_or pool.old 16 0) fired.number fired.at base.now m.old.env.now × (8 ≤ length m.old.env.now) × HasRoom KEYS base.now m.old }
+    ensures lent { SameLent m.old m.new }
+    ensures branched { Branched book.now pool.old (get_or pool.old 16 0) fired.number fired.at (bound_is bound) base.now m.old.env.now (answer result) pool.new }
 {
+    let i = first_waiting(pool);
     let at = head_at(book, fired.at);
     let n = num16(book, at);
     if n == 0 {
@@ -150,40 +169,48 @@ fn branch(
         book,
         chosen,
         bound,
-        base: &m.base,
+        base,
         limits: LIMITS,
     };
-    all_fit(&p, at + 2, n, &mut m.scratch)?;
+    all_fit(&p, at + 2, n, m)?;
     room_for(pool, n)?;
     let place = next_place(strategy_in(pool), fired.number, sequent_count(book));
     let slots = slots_of(pool);
     free_base(pool, i, LIMITS);
-    place_children(&p, at + 2, n, place, &mut m.scratch, pool, slots);
+    place_children(&p, at + 2, n, place, m, pool, slots);
     Ok(())
 }
 
-// One step on a pool that is sound for the book, in lent working memory.
-pub fn step_in(book: &[u8], pool: &mut [u8], bound: Bound, m: &mut Memory) -> Result<(), Refusal>
-    requires { Standing book.now pool.old }
-    ensures { Stepped book.now (bound_is bound) pool.old (answer result) pool.new }
+// What fires on the base, whose choice is left in the environment.
+fn fired_on(book: &[u8], strategy: Strategy, base: &[u64], m: &mut Scratch<'_>) -> Option<Fired>
+    requires { Basis book.now L base.now × (8 ≤ length m.old.env.now) × (KEYS ≤ length m.old.domain.now) }
+    ensures lent { SameLent m.old m.new }
+    ensures evaluated { Evaluated book.now (strategy_is strategy) L base.now result m.new.env.now }
+{
+    evaluate_form(book, strategy, base, LIMITS, m.env, m.domain)
+}
+
+// One step on a pool that is sound for the book, in lent working memory: the base's form, and what is written over for each child.
+pub fn step_in(
+    book: &[u8],
+    pool: &mut [u8],
+    bound: Bound,
+    base: &mut [u64],
+    m: &mut Scratch<'_>,
+) -> Result<(), Refusal>
+    requires { Standing book.now pool.old × (length base.old ≡ form_size L) × (8 ≤ length m.old.env.now) × HasRoom KEYS base.old m.old }
+    ensures lent { SameLent m.old m.new }
+    ensures stepped { Stepped book.now (bound_is bound) pool.old (answer result) pool.new }
 {
     if counted(pool, SlotList::Waiting) == 0 {
         return Err(Refusal::NothingWaiting);
     }
-    let i = first_waiting(pool);
-    get_sheet(pool, i, &mut m.base, LIMITS);
-    match evaluate_form(
-        book,
-        strategy_in(pool),
-        &m.base,
-        LIMITS,
-        &mut m.scratch.env,
-        &mut m.scratch.domain,
-    ) {
+    get_sheet(pool, first_waiting(pool), base, LIMITS);
+    match fired_on(book, strategy_in(pool), base, m) {
         None => {
             finish(&mut Pool { bytes: pool });
             Ok(())
         }
-        Some(fired) => branch(book, pool, i, fired, bound, m),
+        Some(fired) => branch(book, pool, fired, bound, base, m),
     }
 }

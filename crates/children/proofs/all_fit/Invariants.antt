@@ -3,12 +3,14 @@ use mathlib.Core.Path.{◌≡◌}
 use lib.ListN.{length, take}
 use Rattle.limits.specs.Limits.{limits_of}
 use Rattle.bound.specs.Bounds.{bound_is}
+use Rattle.children.specs.Lent.{SameLent}
 use Rattle.children.specs.Ways.{OverLeft}
 use Rattle.children.proofs.all_fit.Given as goal
 
 abbrev pub invariant-loop : goal.invariant-loop
-invariant-loop g l = record {
+invariant-loop l = record {
+  lent : SameLent l.initial.m l.m;
   within : l.q ≤ length l.p.book.now;
-  chosen : take l.p.chosen l.m.env ≡ take l.p.chosen l.initial.m.env;
-  left : OverLeft l.p.book.now l.at l.n l.p.chosen (bound_is l.p.bound) (limits_of l.p.limits) l.initial.m.env l.p.base.now l.counter l.q;
+  chosen : take l.p.chosen l.m.env.now ≡ take l.p.chosen l.initial.m.env.now;
+  left : OverLeft l.p.book.now l.at l.n l.p.chosen (bound_is l.p.bound) (limits_of l.p.limits) l.initial.m.env.now l.p.base.now l.counter l.q;
 }

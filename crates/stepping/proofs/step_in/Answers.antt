@@ -10,49 +10,51 @@ use Rattle.evalforms.specs.Basis.{Evaluated}
 use Rattle.bound.specs.Bounds.{bound_is}
 use Rattle.refusals.specs.Numbers.{answer}
 use Rattle.stepping.specs.Standing.{L, Stepped, basis}
-use Rattle.stepping.specs.Branch.{HasFired, has_fired, Branched}
+use Rattle.stepping.specs.Branch.{has_fired}
+use Rattle.children.specs.Lent.{room_kept}
 use Rattle.stepping.specs.Outs.{out_none, first_inside, on_base, fires_at, out_done, out_branch}
 use Rattle.stepping.proofs.step_in.Goals as goal
 
-pub returns-then-counted-eq0 : goal.returns-then-counted-eq0
-returns-then-counted-eq0 c = out_none c.args.book.now c.args.pool.now (bound_is c.args.bound) (sym c.counted.ensures.0 ∙ c.if-counted-eq0.true)
+pub returns-then-counted-eq0-clause-stepped : goal.returns-then-counted-eq0-clause-stepped
+returns-then-counted-eq0-clause-stepped c = out_none c.args.book.now c.args.pool.now (bound_is c.args.bound) (sym c.counted.ensures.0 ∙ c.if-counted-eq0.true)
 
 pub get_sheet-requires : goal.get_sheet-requires
 get_sheet-requires c =
     let some : get_or c.args.pool.now 12 0 ≡ 0 → ⊥ = λ e. c.if-counted-eq0.false (c.counted.ensures.0 ∙ e) in
-    (subst (λ x. 208 + 2128 * x + 2128 ≤ length c.args.pool.now) (sym c.first_waiting-i.ensures) (first_inside c.args.book.now c.args.pool.now (bound_is c.args.bound) some c.requires), omega arith)
+    (subst (λ x. 208 + 2128 * x + 2128 ≤ length c.args.pool.now) (sym c.first_waiting.ensures) (first_inside c.args.book.now c.args.pool.now (bound_is c.args.bound) some c.requires.0), c.requires.1)
 
-pub evaluate_form-requires : goal.evaluate_form-requires
-evaluate_form-requires c =
+pub fired_on-requires : goal.fired_on-requires
+fired_on-requires c =
     let some : get_or c.args.pool.now 12 0 ≡ 0 → ⊥ = λ e. c.if-counted-eq0.false (c.counted.ensures.0 ∙ e) in
-    let l = subst (λ x. Loaded L (part (208 + 2128 * x) 2128 c.args.pool.now) c.get_sheet.new.w) c.first_waiting-i.ensures c.get_sheet.ensures in
-    (basis c.args.book.now c.args.pool.now c.requires _ _ _ _ (on_base c.args.book.now c.args.pool.now (bound_is c.args.bound) some _ l c.requires), (omega arith, omega arith))
+    let l = subst (λ x. Loaded L (part (208 + 2128 * x) 2128 c.args.pool.now) c.get_sheet.new.w) c.first_waiting.ensures c.get_sheet.ensures in
+    (basis c.args.book.now c.args.pool.now c.requires.0 _ _ _ _ (on_base c.args.book.now c.args.pool.now (bound_is c.args.bound) some _ l c.requires.0), c.requires.2, c.requires.3.0)
 
 pub invariant_of-finish : goal.invariant_of-finish
 invariant_of-finish c =
     let some : get_or c.args.pool.now 12 0 ≡ 0 → ⊥ = λ e. c.if-counted-eq0.false (c.counted.ensures.0 ∙ e) in
-    record { headed = omega (arith, first_inside c.args.book.now c.args.pool.now (bound_is c.args.bound) some c.requires) }
+    record { headed = omega (arith, first_inside c.args.book.now c.args.pool.now (bound_is c.args.bound) some c.requires.0) }
 
 pub branch-book-requires : goal.branch-book-requires
 branch-book-requires c =
     let some : get_or c.args.pool.now 12 0 ≡ 0 → ⊥ = λ x. c.if-counted-eq0.false (c.counted.ensures.0 ∙ x) in
-    let l = subst (λ x. Loaded L (part (208 + 2128 * x) 2128 c.args.pool.now) c.get_sheet.new.w) c.first_waiting-i.ensures c.get_sheet.ensures in
-    let v = subst (λ x. Evaluated c.args.book.now x L c.get_sheet.new.w c.evaluate_form.result c.evaluate_form.new.env) c.strategy_in.ensures c.evaluate_form.ensures in
-    let f = fires_at c.args.book.now c.args.pool.now (bound_is c.args.bound) some _ l c.evaluate_form.new.env c.evaluate_form.result v c.in-Some.fired c.in-Some.is c.requires in
-    subst (λ y. HasFired c.args.book.now c.args.pool.now y c.in-Some.fired.number c.in-Some.fired.at c.get_sheet.new.w c.evaluate_form.new.env) (sym c.first_waiting-i.ensures) (has_fired c.args.book.now c.args.pool.now _ _ _ _ _ c.requires f)
+    let l = subst (λ x. Loaded L (part (208 + 2128 * x) 2128 c.args.pool.now) c.get_sheet.new.w) c.first_waiting.ensures c.get_sheet.ensures in
+    let v = subst (λ x. Evaluated c.args.book.now x L c.get_sheet.new.w c.fired_on.result c.fired_on.new.m.env.now) c.strategy_in.ensures c.fired_on.ensures.evaluated in
+    let f = fires_at c.args.book.now c.args.pool.now (bound_is c.args.bound) some _ l c.fired_on.new.m.env.now c.fired_on.result v c.in-Some.fired c.in-Some.is c.requires.0 in
+    let lent = c.fired_on.ensures.lent in
+    (has_fired c.args.book.now c.args.pool.now _ _ _ _ _ c.requires.0 f, omega (arith, lent.1.1, c.requires.2), room_kept _ _ c.args.m.now c.fired_on.new.m lent (c.requires.3.0, c.requires.3.1 ∙ sym c.get_sheet.auto.w))
 
-pub returns-in-None : goal.returns-in-None
-returns-in-None c =
+pub returns-in-None-clause-stepped : goal.returns-in-None-clause-stepped
+returns-in-None-clause-stepped c =
     let some : get_or c.args.pool.now 12 0 ≡ 0 → ⊥ = λ e. c.if-counted-eq0.false (c.counted.ensures.0 ∙ e) in
-    let l = subst (λ x. Loaded L (part (208 + 2128 * x) 2128 c.args.pool.now) c.get_sheet.new.w) c.first_waiting-i.ensures c.get_sheet.ensures in
-    let v = subst (λ x. Evaluated c.args.book.now x L c.get_sheet.new.w c.evaluate_form.result c.evaluate_form.new.env) c.strategy_in.ensures c.evaluate_form.ensures in
+    let l = subst (λ x. Loaded L (part (208 + 2128 * x) 2128 c.args.pool.now) c.get_sheet.new.w) c.first_waiting.ensures c.get_sheet.ensures in
+    let v = subst (λ x. Evaluated c.args.book.now x L c.get_sheet.new.w c.fired_on.result c.fired_on.new.m.env.now) c.strategy_in.ensures c.fired_on.ensures.evaluated in
     subst (Stepped c.args.book.now (bound_is c.args.bound) c.args.pool.now 0) (search rules)
-    (out_done c.args.book.now c.args.pool.now (bound_is c.args.bound) some _ l c.evaluate_form.new.env c.evaluate_form.result v c.in-None.is _ c.finish.ensures.1)
+    (out_done c.args.book.now c.args.pool.now (bound_is c.args.bound) some _ l c.fired_on.new.m.env.now c.fired_on.result v c.in-None.is _ c.finish.ensures.1)
 
-pub returns-in-Some : goal.returns-in-Some
-returns-in-Some c =
+pub returns-in-Some-clause-stepped : goal.returns-in-Some-clause-stepped
+returns-in-Some-clause-stepped c =
     let some : get_or c.args.pool.now 12 0 ≡ 0 → ⊥ = λ x. c.if-counted-eq0.false (c.counted.ensures.0 ∙ x) in
-    let l = subst (λ x. Loaded L (part (208 + 2128 * x) 2128 c.args.pool.now) c.get_sheet.new.w) c.first_waiting-i.ensures c.get_sheet.ensures in
-    let v = subst (λ x. Evaluated c.args.book.now x L c.get_sheet.new.w c.evaluate_form.result c.evaluate_form.new.env) c.strategy_in.ensures c.evaluate_form.ensures in
-    out_branch c.args.book.now c.args.pool.now (bound_is c.args.bound) some _ l c.evaluate_form.new.env c.evaluate_form.result v c.in-Some.fired c.in-Some.is (answer c.branch-book.result) c.branch-book.new.pool
-    (subst (λ y. Branched c.args.book.now c.args.pool.now y c.in-Some.fired.number c.in-Some.fired.at (bound_is c.args.bound) c.get_sheet.new.w c.evaluate_form.new.env (answer c.branch-book.result) c.branch-book.new.pool) c.first_waiting-i.ensures c.branch-book.ensures)
+    let l = subst (λ x. Loaded L (part (208 + 2128 * x) 2128 c.args.pool.now) c.get_sheet.new.w) c.first_waiting.ensures c.get_sheet.ensures in
+    let v = subst (λ x. Evaluated c.args.book.now x L c.get_sheet.new.w c.fired_on.result c.fired_on.new.m.env.now) c.strategy_in.ensures c.fired_on.ensures.evaluated in
+    out_branch c.args.book.now c.args.pool.now (bound_is c.args.bound) some _ l c.fired_on.new.m.env.now c.fired_on.result v c.in-Some.fired c.in-Some.is (answer c.branch-book.result) c.branch-book.new.pool
+    c.branch-book.ensures.branched
