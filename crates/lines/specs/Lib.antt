@@ -2,6 +2,8 @@
 pub mod Text
 pub mod Printed
 pub mod Examples
+pub mod Wrote
+pub mod Writes
 pub mod Numbers
 pub mod Writing
 pub mod Lines

@@ -1,12 +1,11 @@
-// lines: the listing's lines, written on a page behind what stands there. What a line says is defined in specs/Text.antt. Entries of a
-// sheet are eight bytes each (docs/FORMAT.md).
+// lines: the listing's lines, written on a page behind what stands there. A page is bytes that a caller lends, from a place on; what
+// stands elsewhere in them stays. What a line says is defined in specs/Text.antt. Entries of a sheet are eight bytes each
+// (docs/FORMAT.md).
 #![tactic(auto)]
 
-ghost use Rattle.std.specs.Prelude.{◌≡◌, ℕ, ◌+◌, ◌*◌, ◌^◌, ◌≤◌, ◌<◌, List, [], ◌∷◌, ◌++◌, length, take};
+ghost use Rattle.std.specs.Prelude.{◌≡◌, ◌+◌, ◌*◌, ◌^◌, ◌≤◌, ◌<◌, [], ◌∷◌, length, slice_range};
 ghost use Rattle.rules.specs.Image.{args_in, key_in, fact_in};
 ghost use Rattle.lines.specs.Text.{fields, key_line, fact_line, depth_text, refusal};
-
-use std::marker::Model;
 
 // The bytes of an entry of a sheet.
 pub const ENTRY: usize = 8;
@@ -25,60 +24,65 @@ pub const DEPTH_LINE: usize = 6 + 2 * FIELD;
 
 pub const REFUSAL: usize = 8 + WIDE_FIELD;
 
-// A text of at most N bytes, which clauses see as those written so far.
+// A text on lent bytes, from its start to its end.
 #[derive(Drop)]
-pub struct Page<const N: usize> {
-    bytes: [u8; N],
-    len: usize,
+pub struct Page<'a> {
+    pub out: &'a mut [u8],
+    pub start: usize,
+    pub end: usize,
+    pub ghost begins: { start ≤ end },
+    pub ghost within: { end ≤ length out.now },
 }
 
-impl<const N: usize> Model for Page<N> {
-    ghost Value = { List ℕ };
-
-    ghost view = { λ p. take p.len p.bytes };
-
-    ghost invariant = { λ p. p.len ≤ N };
-}
-
-impl<const N: usize> Page<N> {
-    pub fn new() -> Self
-        ensures { result ≡ [] }
+impl<'a> Page<'a> {
+    // No text yet, on bytes from a place on.
+    pub fn new(out: &'a mut [u8], start: usize) -> Page<'a>
+        requires { start ≤ length out.old }
+        ensures same_reference { result.out.ghost_name ≡ out.entry.ghost_name }
+        ensures unchanged { result.out.now ≡ out.old }
+        ensures empty { (result.start ≡ start) × (result.end ≡ start) }
     {
         Page {
-            bytes: [0; N],
-            len: 0,
+            out,
+            start,
+            end: start,
         }
     }
+}
+
+impl Page<'_> {
+    ghost use Rattle.lines.specs.Writes.{Writes};
 
     pub fn clear(&mut self)
-        ensures { self.new ≡ [] }
+        ensures same_reference { self.new.out.ghost_name ≡ self.old.out.ghost_name }
+        ensures unchanged { self.new.out.now ≡ self.old.out.now }
+        ensures empty { (self.new.start ≡ self.old.start) × (self.new.end ≡ self.old.start) }
     {
-        self.len = 0;
+        self.end = self.start;
     }
 
     pub fn text(&self) -> &[u8]
-        ensures { result.now ≡ self.now }
+        ensures { result.now ≡ slice_range self.now.out.now self.now.start self.now.end }
     {
-        &self.bytes[..self.len]
+        &self.out[self.start..self.end]
     }
 
     // Bytes as they are.
     pub fn word(&mut self, w: &[u8])
-        requires { length self.old + length w.now ≤ N }
-        ensures { self.new ≡ self.old ++ w.now }
+        requires { self.old.end + length w.now ≤ length self.old.out.now }
+        ensures { Writes self.old w.now self.new }
     {
-        let start = self.len;
+        let start = self.end;
         let end = start + w.len();
-        let bytes = &mut self.bytes[..];
-        bytes[start..end].copy_from_slice(w);
-        self.len = end;
+        self.out[start..end].copy_from_slice(w);
+        self.end = end;
     }
 
     // A space and a number in decimal, of at most so many digits.
     pub fn field<const DIGITS: usize>(&mut self, x: u64)
-        requires { (0 < DIGITS) × (x < 10 ^ DIGITS) × (length self.old + DIGITS + 1 ≤ N) }
-        ensures text { self.new ≡ self.old ++ fields (x ∷ []) }
-        ensures short { length self.new ≤ length self.old + DIGITS + 1 }
+        requires { (0 < DIGITS) × (x < 10 ^ DIGITS) × (self.old.end + DIGITS + 1 ≤ length self.old.out.now) }
+        ensures text { Writes self.old (fields (x ∷ [])) self.new }
+        ensures short { self.new.end ≤ self.old.end + DIGITS + 1 }
     {
         self.word(b" ");
         self.word(itoa::Buffer::new().format(x).as_bytes());
@@ -86,9 +90,9 @@ impl<const N: usize> Page<N> {
 
     // A field for each of some bytes.
     fn row(&mut self, s: &[u8])
-        requires { length self.old + FIELD * length s.now ≤ N }
-        ensures text { self.new ≡ self.old ++ fields s.now }
-        ensures short { length self.new ≤ length self.old + FIELD * length s.now }
+        requires { self.old.end + FIELD * length s.now ≤ length self.old.out.now }
+        ensures text { Writes self.old (fields s.now) self.new }
+        ensures short { self.new.end ≤ self.old.end + FIELD * length s.now }
     {
         for b in s {
             self.field::<3>(*b as u64);
@@ -96,10 +100,10 @@ impl<const N: usize> Page<N> {
     }
 
     // The line of a key.
-    pub fn key_line(&mut self, entry: &[u8; ENTRY])
-        requires { length self.old + KEY_LINE ≤ N }
-        ensures text { self.new ≡ self.old ++ key_line (key_in entry.now) }
-        ensures short { length self.new ≤ length self.old + KEY_LINE }
+    pub fn key_line(&mut self, entry: &[u8])
+        requires { (length entry.now ≡ ENTRY) × (self.old.end + KEY_LINE ≤ length self.old.out.now) }
+        ensures text { Writes self.old (key_line (key_in entry.now)) self.new }
+        ensures short { self.new.end ≤ self.old.end + KEY_LINE }
     {
         self.word(b"key");
         self.row(&entry[..2]);
@@ -110,10 +114,10 @@ impl<const N: usize> Page<N> {
     }
 
     // The line of a fact.
-    pub fn fact_line(&mut self, entry: &[u8; ENTRY])
-        requires { length self.old + FACT_LINE ≤ N }
-        ensures text { self.new ≡ self.old ++ fact_line (fact_in entry.now) }
-        ensures short { length self.new ≤ length self.old + FACT_LINE }
+    pub fn fact_line(&mut self, entry: &[u8])
+        requires { (length entry.now ≡ ENTRY) × (self.old.end + FACT_LINE ≤ length self.old.out.now) }
+        ensures text { Writes self.old (fact_line (fact_in entry.now)) self.new }
+        ensures short { self.new.end ≤ self.old.end + FACT_LINE }
     {
         self.word(b"fact");
         self.row(&entry[1..2]);
@@ -123,9 +127,9 @@ impl<const N: usize> Page<N> {
 
     // The line of an element and its depth.
     pub fn depth_line(&mut self, element: u64, depth: u64)
-        requires { (element < 1000) × (depth < 1000) × (length self.old + DEPTH_LINE ≤ N) }
-        ensures text { self.new ≡ self.old ++ depth_text element depth }
-        ensures short { length self.new ≤ length self.old + DEPTH_LINE }
+        requires { (element < 1000) × (depth < 1000) × (self.old.end + DEPTH_LINE ≤ length self.old.out.now) }
+        ensures text { Writes self.old (depth_text element depth) self.new }
+        ensures short { self.new.end ≤ self.old.end + DEPTH_LINE }
     {
         self.word(b"depth");
         self.field::<3>(element);
@@ -135,9 +139,9 @@ impl<const N: usize> Page<N> {
 
     // The line of a refusal.
     pub fn refusal(&mut self, x: u64)
-        requires { (x < 10 ^ 10) × (length self.old + REFUSAL ≤ N) }
-        ensures text { self.new ≡ self.old ++ refusal x }
-        ensures short { length self.new ≤ length self.old + REFUSAL }
+        requires { (x < 10 ^ 10) × (self.old.end + REFUSAL ≤ length self.old.out.now) }
+        ensures text { Writes self.old (refusal x) self.new }
+        ensures short { self.new.end ≤ self.old.end + REFUSAL }
     {
         self.word(b"refused");
         self.field::<10>(x);
@@ -146,7 +150,8 @@ impl<const N: usize> Page<N> {
 }
 
 // The arguments of an entry: as many as it counts, of the four that there are.
-fn arguments(entry: &[u8; ENTRY]) -> &[u8]
+fn arguments(entry: &[u8]) -> &[u8]
+    requires { length entry.now ≡ ENTRY }
     ensures value { result.now ≡ args_in entry.now }
     ensures few { length result.now ≤ 4 }
 {

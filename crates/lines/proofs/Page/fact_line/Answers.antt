@@ -1,11 +1,13 @@
 -- The parts of the line, one behind the other.
-use Rattle.std.proofs.Common.{arith}
+use Rattle.std.proofs.Common.{[]}
 use Rattle.lines.specs.Text.{fact_word, newline}
+use Rattle.lines.specs.Writes.{writes_next, writes_as}
 use Rattle.lines.specs.Lines.{fact_parts}
 use Rattle.lines.proofs.Page.fact_line.Goals as goal
 
 pub returns-clause-text : goal.returns-clause-text
 unfolding fact_word newline
-returns-clause-text g c =
-    rw (c.word-2.ensures, c.row-2.ensures.text, c.row.ensures.text, c.word.ensures, c.arguments.ensures.value)
-    (fact_parts c.args.entry.now (omega arith) c.args.self.now)
+returns-clause-text c =
+    let arguments = rw c.arguments.ensures.value at c.row-2.ensures.text in
+    let w = writes_next (writes_next (writes_next c.word.ensures c.row.ensures.text) arguments) c.word-2.ensures in
+    writes_as _ (fact_parts c.args.entry.now c.requires.0 []) w
