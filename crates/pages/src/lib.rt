@@ -2,13 +2,14 @@
 // Readers are total, so any bytes are taken: what is written is the text of what the bytes say.
 #![tactic(auto)]
 
-ghost use Rattle.std.specs.Prelude.{◌≡◌, ◌+◌, ◌*◌, ◌≤◌, ◌<◌, ◌++◌, min, map, length, get_or, slice_index, take, drop};
+ghost use Rattle.std.specs.Prelude.{◌≡◌, ◌+◌, ◌*◌, ◌≤◌, ◌<◌, min, map, length, get_or, slice_index, take, drop};
 ghost use Rattle.base.specs.Lists.{mem};
 ghost use Rattle.rules.specs.Reading.{num};
 ghost use Rattle.rules.specs.Sheet.{limits};
 ghost use Rattle.rules.specs.Image.{parts, sheet_in, pool_in};
 ghost use Rattle.settings.specs.Numbers.{number_of};
 ghost use Rattle.lines.specs.Text.{model_lines, sheet_lines, listing};
+ghost use Rattle.lines.specs.Writes.{Writes};
 ghost use Rattle.pages.specs.Tables.{slots_text, stop_line, waiting_line};
 
 use limits::{HEAD, LIMITS, SLOT, SLOT_KEYS};
@@ -42,8 +43,8 @@ fn counted(s: &[u8], at: usize, most: usize) -> usize
 }
 
 // The first so many entries of the table at a place.
-fn entries(s: &[u8; SLOT], table: usize, count: usize) -> &[[u8; ENTRY]]
-    requires { table + ENTRY * count ≤ SLOT }
+fn entries(s: &[u8], table: usize, count: usize) -> &[[u8; ENTRY]]
+    requires { (length s.now ≡ SLOT) × (table + ENTRY * count ≤ SLOT) }
     ensures value { result.now ≡ parts ENTRY count (drop table s.now) }
     ensures many { length result.now ≡ count }
 {
@@ -59,10 +60,10 @@ fn yielded(keys: &[[u8; ENTRY]], element: u8) -> bool
 }
 
 // What the sheet of a slot says: keys, the depths of the elements that they yield, facts.
-pub fn model_lines<const N: usize>(s: &[u8; SLOT], page: &mut Page<N>)
-    requires { length page.old + MODEL_LINES ≤ N }
-    ensures text { page.new ≡ page.old ++ model_lines (sheet_in limits s.now).model }
-    ensures short { length page.new ≤ length page.old + MODEL_LINES }
+pub fn model_lines(s: &[u8], page: &mut Page<'_>)
+    requires { (length s.now ≡ SLOT) × (page.old.end + MODEL_LINES ≤ length page.old.out.now) }
+    ensures text { Writes page.old (model_lines (sheet_in limits s.now).model) page.new }
+    ensures short { page.new.end ≤ page.old.end + MODEL_LINES }
 {
     let keys = entries(s, SLOT_KEYS, counted(s, 6, KEYS));
     let facts = entries(s, LIMITS.slot_facts_at(), counted(s, 8, FACTS));
@@ -82,10 +83,10 @@ pub fn model_lines<const N: usize>(s: &[u8; SLOT], page: &mut Page<N>)
 }
 
 // A sheet: its standing and model number, then what it says.
-pub fn sheet_lines<const N: usize>(standing: &[u8], s: &[u8; SLOT], page: &mut Page<N>)
-    requires { (length standing.now ≤ 8) × (length page.old + SHEET_LINES ≤ N) }
-    ensures text { page.new ≡ page.old ++ sheet_lines standing.now (sheet_in limits s.now) }
-    ensures short { length page.new ≤ length page.old + SHEET_LINES }
+pub fn sheet_lines(standing: &[u8], s: &[u8], page: &mut Page<'_>)
+    requires { (length standing.now ≤ 8) × (length s.now ≡ SLOT) × (page.old.end + SHEET_LINES ≤ length page.old.out.now) }
+    ensures text { Writes page.old (sheet_lines standing.now (sheet_in limits s.now)) page.new }
+    ensures short { page.new.end ≤ page.old.end + SHEET_LINES }
 {
     page.word(standing);
     page.field::<10>(num16(s, 0));
@@ -105,10 +106,10 @@ fn named(pool: &[u8], list: SlotList) -> &[u8]
 }
 
 // The sheets that a list names, in its order; behind the last slot stands the blank one.
-fn list_lines<const N: usize>(standing: &[u8], pool: &[u8], list: &[u8], page: &mut Page<N>)
-    requires { (length standing.now ≤ 8) × (HEAD ≤ length pool.now) × (length page.old + SHEET_LINES * length list.now ≤ N) }
-    ensures text { page.new ≡ page.old ++ slots_text standing.now pool.now list.now }
-    ensures short { length page.new ≤ length page.old + SHEET_LINES * length list.now }
+fn list_lines(standing: &[u8], pool: &[u8], list: &[u8], page: &mut Page<'_>)
+    requires { (length standing.now ≤ 8) × (HEAD ≤ length pool.now) × (page.old.end + SHEET_LINES * length list.now ≤ length page.old.out.now) }
+    ensures text { Writes page.old (slots_text standing.now pool.now list.now) page.new }
+    ensures short { page.new.end ≤ page.old.end + SHEET_LINES * length list.now }
 {
     let (slots, _) = pool[HEAD..].as_chunks();
     for i in list {
@@ -118,10 +119,10 @@ fn list_lines<const N: usize>(standing: &[u8], pool: &[u8], list: &[u8], page: &
 }
 
 // The first line: stop and steps.
-fn stop_line<const N: usize>(stop: u32, steps: u32, page: &mut Page<N>)
-    requires { length page.old + STOP_LINE ≤ N }
-    ensures text { page.new ≡ page.old ++ stop_line stop steps }
-    ensures short { length page.new ≤ length page.old + STOP_LINE }
+fn stop_line(stop: u32, steps: u32, page: &mut Page<'_>)
+    requires { page.old.end + STOP_LINE ≤ length page.old.out.now }
+    ensures text { Writes page.old (stop_line stop steps) page.new }
+    ensures short { page.new.end ≤ page.old.end + STOP_LINE }
 {
     page.word(b"stop");
     page.field::<10>(stop as u64);
@@ -131,10 +132,10 @@ fn stop_line<const N: usize>(stop: u32, steps: u32, page: &mut Page<N>)
 }
 
 // The last line: how many wait.
-fn waiting_line<const N: usize>(waiting: usize, page: &mut Page<N>)
-    requires { (waiting ≤ MOST_LISTED) × (length page.old + WAITING_LINE ≤ N) }
-    ensures text { page.new ≡ page.old ++ waiting_line waiting }
-    ensures short { length page.new ≤ length page.old + WAITING_LINE }
+fn waiting_line(waiting: usize, page: &mut Page<'_>)
+    requires { (waiting ≤ MOST_LISTED) × (page.old.end + WAITING_LINE ≤ length page.old.out.now) }
+    ensures text { Writes page.old (waiting_line waiting) page.new }
+    ensures short { page.new.end ≤ page.old.end + WAITING_LINE }
 {
     page.word(b"waiting");
     page.field::<3>(waiting as u64);
@@ -143,9 +144,9 @@ fn waiting_line<const N: usize>(waiting: usize, page: &mut Page<N>)
 
 // The whole listing of a pool, behind a run's answer.
 #[tactic(auto, using(crate::specs::Pools::complete_long, crate::specs::Pools::bounded_long))]
-pub fn listing<const N: usize>(pool: &[u8], stop: u32, steps: u32, page: &mut Page<N>)
-    requires { (HEAD ≤ length pool.now) × (length page.old + SHEET_LINES * (length (pool_in limits pool.now).complete + length (pool_in limits pool.now).bounded) + OTHER_LINES ≤ N) }
-    ensures { page.new ≡ page.old ++ listing stop steps (pool_in limits pool.now) }
+pub fn listing(pool: &[u8], stop: u32, steps: u32, page: &mut Page<'_>)
+    requires { (HEAD ≤ length pool.now) × (page.old.end + SHEET_LINES * (length (pool_in limits pool.now).complete + length (pool_in limits pool.now).bounded) + OTHER_LINES ≤ length page.old.out.now) }
+    ensures { Writes page.old (listing stop steps (pool_in limits pool.now)) page.new }
 {
     let complete = named(pool, SlotList::Complete);
     let bounded = named(pool, SlotList::Bounded);
