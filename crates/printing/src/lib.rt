@@ -3,11 +3,12 @@
 // specs/Printed.antt.
 #![tactic(auto)]
 
-ghost use Rattle.std.specs.Prelude.{◌≡◌, ◌+◌, ◌*◌, ◌≤◌, ◌++◌, length};
+ghost use Rattle.std.specs.Prelude.{◌≡◌, ◌+◌, ◌*◌, ◌≤◌, length};
 ghost use Rattle.std.specs.Bool.{MatchBool};
 ghost use Rattle.rules.specs.Sheet.{limits};
 ghost use Rattle.rules.specs.Image.{pool_in};
 ghost use Rattle.lines.specs.Printed.{printed};
+ghost use Rattle.lines.specs.Writes.{Writes};
 ghost use Rattle.printing.specs.Stops.{ran_text};
 ghost use Rattle.printing.specs.Opening.{Opened, OpenedOr};
 
@@ -41,9 +42,9 @@ fn refuses_call(stop: u32) -> bool
 }
 
 // A run's answer and pool: the refusal's line alone, or the listing.
-fn ran_text<const N: usize>(pool: &[u8; POOL], stop: u32, steps: u32, page: &mut Page<N>)
-    requires { length page.old + SHEET_LINES * (length (pool_in limits pool.now).complete + length (pool_in limits pool.now).bounded) + OTHER_LINES ≤ N }
-    ensures { page.new ≡ page.old ++ ran_text stop steps pool.now }
+fn ran_text(pool: &[u8], stop: u32, steps: u32, page: &mut Page<'_>)
+    requires { (HEAD ≤ length pool.now) × (page.old.end + SHEET_LINES * (length (pool_in limits pool.now).complete + length (pool_in limits pool.now).bounded) + OTHER_LINES ≤ length page.old.out.now) }
+    ensures { Writes page.old (ran_text stop steps pool.now) page.new }
 {
     if refuses_call(stop) {
         page.refusal(stop as u64);
@@ -53,9 +54,9 @@ fn ran_text<const N: usize>(pool: &[u8; POOL], stop: u32, steps: u32, page: &mut
 }
 
 // The text behind an opened pool.
-fn opened_text<const N: usize>(input: &[u8], pool: &mut [u8; POOL], page: &mut Page<N>)
-    requires { Opened input.now pool.old × (length page.old + TEXT ≤ N) }
-    ensures { page.new ≡ page.old ++ printed input.now }
+fn opened_text(input: &[u8], pool: &mut [u8], page: &mut Page<'_>)
+    requires { Opened input.now pool.old × (length pool.old ≡ POOL) × (page.old.end + TEXT ≤ length page.old.out.now) }
+    ensures { Writes page.old (printed input.now) page.new }
 {
     let bound = byte(input, 2) as u32;
     let number = num32(input, 4) as u32;
@@ -64,7 +65,8 @@ fn opened_text<const N: usize>(input: &[u8], pool: &mut [u8; POOL], page: &mut P
 }
 
 // A pool opened by an input: its settings and its book, then the fourth byte, which is 0.
-fn open_input(input: &[u8], pool: &mut [u8; POOL]) -> Result<(), Refusal>
+fn open_input(input: &[u8], pool: &mut [u8]) -> Result<(), Refusal>
+    requires { length pool.old ≡ POOL }
     ensures { OpenedOr input.now result pool.new }
 {
     if input.len() < SETTINGS {
@@ -80,9 +82,9 @@ fn open_input(input: &[u8], pool: &mut [u8; POOL]) -> Result<(), Refusal>
 }
 
 // The text of an input.
-pub fn text<const N: usize>(input: &[u8], pool: &mut [u8; POOL], page: &mut Page<N>)
-    requires { length page.old + TEXT ≤ N }
-    ensures { page.new ≡ page.old ++ printed input.now }
+pub fn text(input: &[u8], pool: &mut [u8], page: &mut Page<'_>)
+    requires { (length pool.old ≡ POOL) × (page.old.end + TEXT ≤ length page.old.out.now) }
+    ensures { Writes page.old (printed input.now) page.new }
 {
     match open_input(input, pool) {
         Ok(()) => opened_text(input, pool, page),
