@@ -9,7 +9,8 @@ use records::{STDIN, STDOUT};
 fn main() {
     let mut input = [0; INPUT];
     let mut pool = [0; POOL];
-    let mut page: Page<TEXT> = Page::new();
+    let mut out = [0; TEXT];
+    let mut page = Page::new(&mut out, 0);
     let n = io::read_full(STDIN, &mut input);
     text(&input[..n], &mut pool, &mut page);
     io::write_all(STDOUT, page.text());
