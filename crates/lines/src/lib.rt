@@ -109,7 +109,7 @@ impl Page<'_> {
         self.row(&entry[..2]);
         self.row(arguments(entry));
         self.word(b" =");
-        self.row(&entry[7..]);
+        self.row(&entry[7..ENTRY]);
         self.word(b"\n");
     }
 
