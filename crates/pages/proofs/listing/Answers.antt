@@ -8,8 +8,6 @@ use Rattle.pages.proofs.listing.Goals as goal
 pub returns : goal.returns
 unfolding complete_word bounded_word
 returns c =
-    let complete = rw c.named-complete.ensures.value at c.list_lines.ensures.text in
-    let bounded = rw c.named-bounded.ensures.value at c.list_lines-2.ensures.text in
-    let waiting = rw c.named-waiting.ensures.few at c.waiting_line.ensures.text in
-    let w = writes_next (writes_next (writes_next c.stop_line.ensures.text complete) bounded) waiting in
-    writes_as _ (listing_parts c.args.pool.now c.requires.0 [] c.args.stop c.args.steps) w
+    let w = writes_next (writes_next (writes_next c.stop_line.ensures.text c.list_lines.ensures.text) c.list_lines-2.ensures.text) c.waiting_line.ensures.text in
+    let named = rw (c.named-complete.ensures.value, c.named-bounded.ensures.value, c.named-waiting.ensures.few) at w in
+    writes_as _ (listing_parts c.args.pool.now c.requires.0 [] c.args.stop c.args.steps) named

@@ -1,7 +1,8 @@
 -- The lines of the entries and elements passed are written, and the three tables stand one behind the other.
-use Rattle.std.proofs.Common.{◌≡◌, sym, ◌∙◌, ap, List, [], map, min, get_or, arith}
+use Rattle.std.proofs.Common.{◌≡◌, ◌+◌, sym, ◌∙◌, ap, List, [], map, min, get_or, arith}
 use Rattle.base.specs.Lists.{mem}
 use Rattle.rules.specs.Reading.{Bytes, num}
+use Rattle.lines.specs.Text.{depth_text}
 use Rattle.lines.specs.declared.Page.{Page}
 use Rattle.lines.specs.Writes.{writes_none, writes_next, writes_as}
 use Rattle.pages.specs.Tables.{key_text, fact_text, depths_none, depths_line, depths_nothing, texts_none, texts_more, texts_all, values_in}
@@ -27,7 +28,7 @@ loop-e-preserved c =
     let told = c.yielded.ensures ∙ ap (λ (l : List Bytes). mem c.loop-e.e (map (λ (key : Bytes). get_or key 7 0) l)) keys in
     elim c.if-yielded.branch [
       | then-yielded w ↦
-          let depth = rw c.slot_depths_at-depths_at.ensures at w.depth_line.ensures.text in
+          let depth = writes_as (depth_text c.loop-e.e (get_or c.args.s.now (2064 + c.loop-e.e) 0)) (ap (λ i. depth_text c.loop-e.e (get_or c.args.s.now i 0)) (omega arith)) w.depth_line.ensures.text in
           let line = writes_as _ (depths_line [] _ c.loop-e.e c.args.s.now (sym told ∙ w.if-yielded.true)) (writes_next c.loop-e.invariant.0 depth) in
           (rw w.page-is line, omega (arith, ap (λ (p : Page). p.end) w.page-is, w.depth_line.ensures.short))
       | else-yielded w ↦
