@@ -1,13 +1,11 @@
 -- One more byte is copied at the front of what is left of the output.
-use Rattle.std.proofs.Common.{◌≡◌, refl, ap, ◌∙◌, ◌++◌, arith, length, length-take-le, append-nil, take, drop, drop_of_length-le}
+use Rattle.std.proofs.Common.{◌≡◌, ap, ◌∙◌, ◌++◌, arith, length, length-take-le, append-nil, take, drop, drop_of_length-le}
 use Rattle.rules.specs.Image.{part}
-use Rattle.octets.specs.Words.{bytes_set}
-use Rattle.takings.specs.Moves.{copied}
+use Rattle.takings.specs.Moves.{copied, copy_none, copy_more}
 use Rattle.takings.proofs.copy_slot.Goals as goal
 
 pub loop-j-init : goal.loop-j-init
-unfolding copied part
-loop-j-init c = refl
+loop-j-init c = copy_none c.args.pool.now c.args.a (take 2128 c.args.out.now)
 
 pub overflow_add-to : goal.overflow_add-to
 overflow_add-to c = omega (arith, length-take-le 2128 c.args.out.now c.requires.1)
@@ -16,11 +14,10 @@ pub bounds-pool-a : goal.bounds-pool-a
 bounds-pool-a c = omega (arith, length-take-le 2128 c.args.out.now c.requires.1)
 
 pub loop-j-preserved : goal.loop-j-preserved
-unfolding copied part
 loop-j-preserved c =
     let o = take 2128 c.args.out.now in
     let n : length o ≡ 2128 = length-take-le 2128 c.args.out.now c.requires.1 in
-    rw c.loop-j.invariant (bytes_set c.args.pool.now c.args.a c.loop-j.j o (omega arith) (omega arith))
+    rw c.loop-j.invariant (copy_more c.args.pool.now c.args.a c.loop-j.j o (omega arith) (omega arith))
 
 pub returns : goal.returns
 unfolding copied part
