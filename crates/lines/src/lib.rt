@@ -3,7 +3,7 @@
 // (docs/FORMAT.md).
 #![tactic(auto)]
 
-ghost use Rattle.std.specs.Prelude.{◌≡◌, ◌+◌, ◌*◌, ◌^◌, ◌≤◌, ◌<◌, [], ◌∷◌, length, slice_range};
+ghost use Rattle.std.specs.Prelude.{◌≡◌, ◌+◌, ◌*◌, ◌^◌, ◌≤◌, ◌<◌, [], ◌∷◌, length};
 ghost use Rattle.rules.specs.Image.{args_in, key_in, fact_in};
 ghost use Rattle.lines.specs.Text.{fields, key_line, fact_line, depth_text, refusal};
 
@@ -51,7 +51,7 @@ impl<'a> Page<'a> {
 }
 
 impl Page<'_> {
-    ghost use Rattle.lines.specs.Writes.{Writes};
+    ghost use Rattle.lines.specs.Writes.{Writes, text_of};
 
     pub fn clear(&mut self)
         ensures same_reference { self.new.out.ghost_name ≡ self.old.out.ghost_name }
@@ -62,7 +62,7 @@ impl Page<'_> {
     }
 
     pub fn text(&self) -> &[u8]
-        ensures { result.now ≡ slice_range self.now.out.now self.now.start self.now.end }
+        ensures { result.now ≡ text_of self.now }
     {
         &self.out[self.start..self.end]
     }
