@@ -37,7 +37,7 @@ fn lowest(depths: &[u64], x: u64) -> u64
     if over < old { over + 1 } else { old }
 }
 
-// The value's depth lowered by one key. Has it fallen? Whether the value has a depth is asked once, before all else.
+// The value's depth lowered by one key. Has it fallen? Whether the value has a depth is asked before all else.
 #[tactic(auto, using(crate::specs::Rest::lowered_none, crate::specs::Rest::lowered_not, crate::specs::Rest::lowered_less))]
 fn lower_at(depths: &mut [u64], x: u64) -> bool
     ensures { LoweredAt x depths.old result depths.new }
