@@ -9,7 +9,7 @@
  * The book is only read.
  *
  * Stack: 2 KB are enough for chase_open, 3 KB for chase_take, 24 KB for chase_step and chase_run (the most that
- * tests/calls/stack measured: 1,000, 1,512, 17,728 and 17,744 bytes; docs/JUDGE.md says how, and what a loader may take at a first call).
+ * tests/calls/stack measured: 1,000, 1,512, 17,728 and 17,744 bytes; docs/JUDGE.md says how).
  *
  * Refusals, lower numbers checked first:
  *    1  book over CHASE_BOOK_MOST bytes
