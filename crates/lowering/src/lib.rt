@@ -13,8 +13,8 @@ pub fn depth(depths: &[u64], e: u64) -> u64
     depths.get(e as usize).map_or(0, |d| *d)
 }
 
-// The greatest depth of the entry's arguments. Of four places as many are gone through as there are arguments: four is known before, so no
-// loop is left where this is built.
+// The greatest depth of the entry's arguments, as many as there are of four places. That there are four is known to the compiler, so no loop
+// is left in what it builds.
 fn deepest(depths: &[u64], x: u64) -> u64
     ensures { result ≡ deepest depths.now x }
 {
@@ -24,8 +24,9 @@ fn deepest(depths: &[u64], x: u64) -> u64
         .fold(0, u64::max)
 }
 
-// The depth of the entry's value, no more than what the entry gives it. One more than a depth below another cannot wrap.
-#[tactic(auto, using(crate::specs::Lower::lowest_none, crate::specs::Lower::lowest_less, crate::specs::Lower::lowest_same))]
+// The depth of the entry's value, no more than what the entry gives it: one more than the greatest depth, or the most that a number can
+// be, so that it cannot wrap.
+#[tactic(auto, using(crate::specs::Lower::lowest_none, crate::specs::Lower::lowest_some))]
 fn lowest(depths: &[u64], x: u64) -> u64
     ensures { result ≡ lowest depths.now x }
 {
@@ -33,8 +34,7 @@ fn lowest(depths: &[u64], x: u64) -> u64
         return 0;
     }
     let old = depth(depths, packing::value(x));
-    let over = deepest(depths, x);
-    if over < old { over + 1 } else { old }
+    deepest(depths, x).saturating_add(1).min(old)
 }
 
 // The value's depth lowered by one key. Has it fallen? Whether the value has a depth is asked before all else.
