@@ -41,8 +41,8 @@ pub struct Scratch<'a> {
     pub domain: &'a mut [u64],
 }
 
-// One form over another of the same length. It is copied here, entry by entry: `copy_from_slice` becomes a call of memmove, and the calls are
-// to need no function of the C library but memset.
+// One form over another of the same length. It is copied here, entry by entry: `copy_from_slice` of a form becomes a call of memmove, and the
+// calls are to need no function of the C library but memset.
 fn copy_form(base: &[u64], form: &mut [u64])
     requires { length form.old ≡ length base.now }
     ensures { form.new ≡ base.now }

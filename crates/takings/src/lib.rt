@@ -23,8 +23,8 @@ use refusals::Refusal;
 use settings::{SlotList, Source};
 use words::byte;
 
-// The slot at a place, into the front of the output. It is copied here, byte by byte: `copy_from_slice` becomes a call of memmove, and a
-// loader that binds that at its first call takes more stack than the 3 KB that are enough for take.
+// The slot at a place, into the front of the output. It is copied here, byte by byte: `copy_from_slice` of a slot becomes a call of memmove,
+// and where a loader binds that at its first call, take needs more stack than the 3 KB that are enough for it.
 fn copy_slot(pool: &[u8], a: usize, out: &mut [u8])
     requires { (a + 2128 ≤ length pool.now) × (2128 ≤ length out.old) }
     ensures { out.new ≡ copied pool.now a 2128 out.old }
