@@ -4,7 +4,6 @@ use Rattle.std.proofs.Common.{sym, ◌∙◌, subst}
 use Rattle.std.proofs.Math.Path.{ap}
 use native.Mathlib.Omega.{arith}
 use lib.ListN.{length, get_or, take, drop}
-use Rattle.base.specs.Lists.{All}
 use Rattle.rules.specs.Book.{rules}
 use Rattle.rules.specs.Reading.{Bytes, num}
 use Rattle.rules.specs.Fire.{firing}
@@ -23,6 +22,7 @@ use Rattle.evaluate.specs.declared.Fired.{Fired}
 use Rattle.evaluate.specs.Answers.{Answers}
 use Rattle.evalforms.specs.Basis.{Evaluated}
 use Rattle.children.specs.Derived.{AnyOver}
+use Rattle.children.specs.Lent.{elements_kept}
 use Rattle.lists.specs.Moves.{Finished}
 use Rattle.adopting.specs.Slots.{Freed}
 use Rattle.stepping.specs.Standing.{L, Standing, Stepped, few, shows, small, short, strategy_is, none_waits, first_waits, Based, based, slot_fits, neat, sturdy}
@@ -54,8 +54,7 @@ module _ (text p : Bytes) (i q a : ℕ) (base env : List ℕ) (g : HasFired text
 
   pub choice_there : (v : ℕ) → v ≡ num text a → (env₁ : List ℕ) → 8 ≤ length env → length env₁ ≡ length env → take v env₁ ≡ take v env → Elements env₁ v
   choice_there v e env₁ l n t =
-      let x = subst (Elements env) (sym e) (elements text p z i q a base env f l) in
-      (omega (arith, x.0), subst (All (λ k. k < 256)) (sym t) x.1)
+      elements_kept v env env₁ n t (subst (Elements env) (sym e) (elements text p z i q a base env f l))
 
 module _ (text p : Bytes) (i q a : ℕ) (bd : Bound) (base env : List ℕ) (at n v : ℕ) (h : HeadAt text a at) (en : n ≡ num text at) (ev : v ≡ num text a) where
   pub out_failed : n ≡ 0 → (p' : Bytes) → Freed L i p p' → Branched text p i q a bd base env 0 p'
